@@ -13,7 +13,7 @@ use Rattle.st_world_laws.proofs.Parts.{edited_fits, edited_room, edits_fit, foll
 use Rattle.st_world_laws.specs.Worlds.{BranchesKeepSchemas, CommitsKeepSchemas, EditsKeepSchemas, HasMain, HaveOwnSessions, IsBranch, IsClient, IsHeader, IsTransaction, KeepSchemasAsTold, KeepToSchemas, LineFits, KeepsLine}
 use Rattle.st_world.specs.World.{IsDeliveredTo, after_edit, cells_given, next_names, opening_document, with_new_on}
 use Rattle.st_edits.specs.InEffect.{last_in_effect}
-use Rattle.std.specs.List.{cons_option, remove, slice_get, slice_set, AllByRecursion}
+use Rattle.std.specs.List.{cons_option, find, remove, slice_get, slice_set, AllByRecursion}
 use Rattle.std.proofs.lemmas.Bool.Decides.{nat_tests}
 use Rattle.std.proofs.lemmas.List.{append-nil, take_all}
 use Rattle.st_ids.specs.Listing.{Has}
@@ -27,6 +27,9 @@ use Rattle.st_marks.specs.declared.intents.Intent.{Intent}
 use Rattle.st_marks.specs.Document.{Document, IsSoundInForm, NodeType, revs}
 use Rattle.st_ids.specs.Root.{opening}
 use Rattle.st_marks.specs.Extends.{item_kept}
+use Rattle.st_marks.specs.declared.changes.NewNode.{NewNode}
+use Rattle.st_ids.specs.Order.{same_node}
+use Rattle.st_marks.specs.Document.{NodeType}
 use Rattle.st_marks.specs.Intent.{Fits, IsIntent, IsKnown, Owns, cell_of, is_new, new_type, put_of, register_of}
 use Rattle.st_marks.specs.declared.intents.Put.{Put}
 use Rattle.st_marks.specs.declared.intents.To.{To}
@@ -77,6 +80,7 @@ use Rattle.st_schema_laws.proofs.Conformity.{conforms_edited, conforms_at_first}
 use Rattle.st_schema_laws.proofs.Told.{commit_at_home}
 use Rattle.st_schema_laws.proofs.Lines.{undo_goes_on, line_after_conforms}
 use Rattle.st_schema_laws.specs.Lines.{IsLine}
+use Rattle.st_world_laws.proofs.OwnHomes.{own_homes_agree}
 use Rattle.st_world_laws.proofs.Telling.{GoesAnew, same_known, run_after, IsToldAnew, goes_front, goes_longer, goes_more, goes_told, nothing_known, commit_is_told, homes_are_told, new_is_told}
 use Rattle.st_world_laws.specs.Worlds.{IsKnownBy}
 use Rattle.st_schema_laws.specs.AgreeingInEffect.{Told, AgreesInLine, ConformsInEffect, with_home, with_commit as told_with_commit}
@@ -103,6 +107,8 @@ begun_keeps h K k known = record {
         agree = tt;
       };
       known = tt;
+      homes = tt;
+      first = λ m e. refl;
     };
     shown = tt;
     edited = tt;
@@ -130,7 +136,7 @@ known_more K L more Ns all = has-all (IsKnownBy L) Ns (λ N i. go N N.schema (al
     go N (Some text) k = more N.rev text k
 
 line_known_more : (K L : Rev → List ℕ → Type 0) → ((r : Rev) (text : List ℕ) → K r text → L r text) → (T : Told) (O : Document) (Ns : List Intent) → KeepsLine K T O Ns → KeepsLine L T O Ns
-line_known_more K L more T O Ns w = record { line = w.line; known = known_more K L more Ns w.known }
+line_known_more K L more T O Ns w = record { line = w.line; known = known_more K L more Ns w.known; homes = w.homes; first = w.first }
 
 pub knows_more : (h : HeaderView) (K L : Rev → List ℕ → Type 0) (log : List Entry) (cs : List Client) → ((r : Rev) (text : List ℕ) → K r text → L r text) → KeepToSchemas h K log cs → KeepToSchemas h L log cs
 knows_more h K L log cs more w =
@@ -238,10 +244,10 @@ module _ (h : HeaderView) (st : IsStart (opening_document h)) (K : Rev → List 
 
   -- a line has one commit more, which was made under the last schema in effect and agrees with it
   pub agrees_more : (T : Told) (log : List Entry) (l : Line) (D : Document) (N : Intent) → CommitsKeepSchemas h K T log l → HasHead (opening_document h) log l D → (Has (revisions (commits_of log l) ++ opening ∷ []) N.rev → ⊥)
-      → LineFits h log (record l { own = l.own ++ N ∷ [] }) → N.under ≡ last_in_effect D → AgreesInLine T D N → IsKnownBy K N → CommitsKeepSchemas h K T log (record l { own = l.own ++ N ∷ [] })
-  agrees_more T log l D N agree head fresh fit under keeps known =
+      → LineFits h log (record l { own = l.own ++ N ∷ [] }) → N.under ≡ last_in_effect D → AgreesInLine T D N → IsKnownBy K N → TellsHomes T.home N → CommitsKeepSchemas h K T log (record l { own = l.own ++ N ∷ [] })
+  agrees_more T log l D N agree head fresh fit under keeps known homes =
       let same = own_more h st log l N in
-      subst (Agree T) same (goes_more T (opening_document h) (commits_of log l) D N agree head fresh (subst (FitInTurn (opening_document h)) (sym same) fit) under keeps known)
+      subst (Agree T) same (goes_more T (opening_document h) (commits_of log l) D N agree head fresh (subst (FitInTurn (opening_document h)) (sym same) fit) under keeps known homes)
 
   -- a client that stays as it is
   pub same_keeps : (log : List Entry) (cs : List Client) (i : ℕ) (c c' : Client) → slice_get cs i ≡ Some c → c ≡ c' → KeepToSchemas h K log cs → KeepToSchemas h K log (slice_set cs i c')
@@ -617,7 +623,7 @@ module _ (h : HeaderView) (st : IsStart (opening_document h)) (K : Rev → List 
       let beside = branches_told log c N.rev k few session fresh K T told anew c k own (λ b t j is x. line_next_apart h st log c (branch_line b) t N.rev x m.rev) (all_get (Branches T log) cs i c w.keep.branches at) in
       let here = line_after_conforms told O (commits_of log (main_line c)) line.line D main in
       let new = not_on log c N.rev k few session fresh K T told anew c own (main_line c) (main_among h st log c k) in
-      let shown : Shown told log (with_new_commit c N) = agrees_more told log (main_line c) D N line main new fit m.under (m.agrees told here (tells_own T.home N) (told_under T.under N)) (nothing_known K N m.no_schema) in
+      let shown : Shown told log (with_new_commit c N) = agrees_more told log (main_line c) D N line main new fit m.under (m.agrees told here (tells_own T.home N) (told_under T.under N)) (nothing_known K N m.no_schema) (tells_own T.home N) in
       told_keeps log c N.rev k few session fresh K T told anew cs i (with_new_commit c N) sessions are at w.keep shown (nothing_edited told log (main_line (with_new_commit c N)) (ap (option_and_then (λ (t : Transaction). t.joined)) none)) beside
 
   pub edited_keeps : (log : List Entry) (cs : List Client) (i : ℕ) (c c' : Client) (D : Document) (word : EditWord) (r : Result Intent EditFault) (a : Answer) → HaveOwnSessions cs → AllByRecursion (IsClient h log) cs → names_in (commits_in log) ≤ 131072
@@ -633,6 +639,12 @@ module _ (h : HeaderView) (st : IsStart (opening_document h)) (K : Rev → List 
 
   -- ## A commit is undone
 
+  -- an intent without new nodes makes none
+  makes_none : (B : Intent) (m : NodeId) → B.new ≡ [] → is_new B m ≡ true → ⊥
+  makes_none B m none new =
+      let e : is_some (option_map (λ (k : NewNode). let t : NodeType = record { ty = k.ty; leaf = k.leaf } in t) (find (λ (k : NewNode). same_node k.node m) [])) ≡ true = subst (λ (l : List NewNode). is_some (option_map (λ (k : NewNode). let t : NodeType = record { ty = k.ty; leaf = k.leaf } in t) (find (λ (k : NewNode). same_node k.node m) l)) ≡ true) none new in
+      let f : false ≡ true = e in cc
+
   -- what undoes a commit of data comes after the list that has it
   undoing_keeps : (T : Told) (list : List Intent) (rev fresh : Rev) (B : Intent) (E : Document) → Agree T list → Run (opening_document h) list E → (u : IsUndoing (opening_document h) list rev fresh B) → u.commit.schema ≡ None
       → (Has (revisions list ++ opening ∷ []) B.rev → ⊥) → FitInTurn (opening_document h) (list ++ B ∷ []) → B.schema ≡ None → Agree (told_with_commit T B (T.view B.under)) (list ++ B ∷ [])
@@ -647,6 +659,8 @@ module _ (h : HeaderView) (st : IsStart (opening_document h)) (K : Rev → List 
             (undo_goes_on T O u.before E at.front at.rest u.commit B fresh (subst (IsLine T O) whole agree.line) at.before on (subst (λ l. Has (revisions l ++ opening ∷ []) B.rev → ⊥) whole new)
             (subst (λ l. FitInTurn O (l ++ B ∷ [])) whole fit) data_only at.verdict (subst (λ F. IsBack u.before (carried_document Verdict.Sound u.before u.commit) fresh (last_in_effect F) B) same u.back));
         known = AllByRecursion-append (IsKnownBy K) list (B ∷ []) agree.known (nothing_known K B none, tt);
+        homes = AllByRecursion-append (TellsHomes T.home) list (B ∷ []) agree.homes (λ m new. absurd (makes_none B m u.back.nothing_new.0 new), tt);
+        first = agree.first;
       }
 
   pub undone_keeps : (log : List Entry) (cs : List Client) (i : ℕ) (c : Client) (rev : Rev) (B : Intent) (E : Document) → HaveOwnSessions cs → AllByRecursion (IsClient h log) cs → names_in (commits_in log) ≤ 131072 → slice_get cs i ≡ Some c → c.transaction ≡ None
@@ -750,14 +764,22 @@ module _ (h : HeaderView) (st : IsStart (opening_document h)) (K : Rev → List 
       (nothing_edited w.told log (main_line c') none) (subst (AllByRecursion (BranchKeeps w.told log)) (sym branches) (all_get (Branches w.told log) cs i c w.keep.branches at))
 
   -- what was edited is a commit
-  pub committed_keeps : (log : List Entry) (cs : List Client) (i : ℕ) (c : Client) (t : Transaction) (J : Intent) → AllByRecursion (IsClient h log) cs → slice_get cs i ≡ Some c → c.transaction ≡ Some t → t.joined ≡ Some J → IsTransaction h log (main_line c) c t
+  pub committed_keeps : (log : List Entry) (cs : List Client) (i : ℕ) (c : Client) (t : Transaction) (J : Intent) → HaveOwnSessions cs → AllByRecursion (IsClient h log) cs → names_in (commits_in log) ≤ 131072
+      → slice_get cs i ≡ Some c → c.transaction ≡ Some t → t.joined ≡ Some J → IsTransaction h log (main_line c) c t
       → LineFits h log (main_line (with_commit (without_transaction c) J)) → KeepToSchemas h K log cs → KeepToSchemas h K log (slice_set cs i (with_commit (without_transaction c) J))
-  committed_keeps log cs i c t J are at is joined x fit w =
+  committed_keeps log cs i c t J sessions are few at is joined x fit w =
+      let O = opening_document h in
       let k = all_get (IsClient h log) cs i c are at in
       let T = w.told in
+      let told = with_home T J in
       let opened_as : joined_of c ≡ Some J = ap (option_and_then (λ (t : Transaction). t.joined)) is ∙ joined in
       let mine : AgreesInLine T x.before J = subst (λ o. IfSome o (AgreesInLine T x.before)) opened_as (all_get (Edited T log) cs i c w.keep.edited at x.before x.main) in
       let so : FitsSoFar x.before t.rev t.under (Some J) = subst (FitsSoFar x.before t.rev t.under) joined x.so_far in
+      let anew = same_known O K T told t.rev (subst (IsToldAnew O T told) so.1 (homes_are_told O T J so.0.itself)) in
+      let own = not_made log c t.rev k few x.session x.new K T told anew in
+      let line = main_told log c t.rev k few x.session x.new K T told anew c k own (all_get (Shown T log) cs i c w.keep.shown at) in
+      let beside = branches_told log c t.rev k few x.session x.new K T told anew c k own (λ b u j opened y e. not_main h st log c b t u k j is opened e) (all_get (Branches T log) cs i c w.keep.branches at) in
       let new = subst (λ r. Has (revisions (commits_of log (main_line c)) ++ opening ∷ []) r → ⊥) (sym so.1) (line_new h st log c k 0 (main_line c) t.rev refl x.new) in
-      one_keeps T log cs i (with_commit (without_transaction c) J) w.keep (agrees_more T log (main_line c) x.before J (all_get (Shown T log) cs i c w.keep.shown at) x.main new fit (so.2 ∙ x.under) mine (nothing_known K J so.3))
-      (nothing_edited T log (main_line (with_commit (without_transaction c) J)) refl) (all_get (Branches T log) cs i c w.keep.branches at)
+      told_keeps log c t.rev k few x.session x.new K T told anew cs i (with_commit (without_transaction c) J) sessions are at w.keep
+      (agrees_more told log (main_line c) x.before J line x.main new fit (so.2 ∙ x.under) (own_homes_agree T x.before J mine) (nothing_known K J so.3) (tells_own T.home J))
+      (nothing_edited told log (main_line (with_commit (without_transaction c) J)) refl) beside

@@ -44,7 +44,8 @@ use Rattle.st_world.specs.declared.edit_word.EditWord.{EditWord}
 use Rattle.st_part_laws.proofs.Told.{told_under}
 use Rattle.st_log_laws.proofs.Shorter.{new_shorter}
 use Rattle.st_schema_laws.proofs.Lines.{line_after_conforms}
-use Rattle.st_world_laws.proofs.Telling.{GoesAnew, same_known, goes_longer, nothing_known, new_is_told}
+use Rattle.st_world_laws.proofs.Telling.{GoesAnew, IsToldAnew, same_known, goes_longer, homes_are_told, nothing_known, new_is_told}
+use Rattle.st_world_laws.proofs.OwnHomes.{own_homes_agree}
 use Rattle.st_schema_laws.specs.AgreeingInEffect.{Told, AgreesInLine, ConformsInEffect, with_home, with_commit}
 
 module _ (h : HeaderView) (st : IsStart (opening_document h)) where
@@ -155,7 +156,7 @@ module _ (h : HeaderView) (st : IsStart (opening_document h)) (K : Rev → List 
       let here = conforms log cs i c j b N.rev sessions are few at is session fresh apart T told anew w.keep D head in
       let mine = line log cs i c j b N.rev sessions are few at is session fresh apart T told anew w.keep in
       let new = branch_new h st log c x b N.rev (branch_there c (suc j) b is).0 fresh in
-      let more = agrees_more h st K told log (branch_line b) D N mine head new fit m.under (m.agrees told here (tells_own T.home N) (told_under T.under N)) (nothing_known K N m.no_schema) in
+      let more = agrees_more h st K told log (branch_line b) D N mine head new fit m.under (m.agrees told here (tells_own T.home N) (told_under T.under N)) (nothing_known K N m.no_schema) (tells_own T.home N) in
       let after : Keeps told log (record b { own = b.own ++ N ∷ [] }) =
       (more, nothing_edited h st K told log (record (branch_line b) { own = b.own ++ N ∷ [] }) (ap (option_and_then (λ (t : Transaction). t.joined)) closed)) in
       branch_told_keeps log cs i c j b N.rev sessions are few at is session fresh apart T told anew w.keep (λ y. record y { own = y.own ++ N ∷ [] }) (c.ids + 1) after
@@ -195,24 +196,33 @@ module _ (h : HeaderView) (st : IsStart (opening_document h)) (K : Rev → List 
       branch_changed w.told log cs i c (suc j) b (λ y. record y { transaction = o }) ids are at is w.keep (before.0, nothing_edited h st K w.told log (record (branch_line b) { transaction = o }) none)
 
   -- what was edited is a commit
-  pub committed_on_branch_keeps : (log : List Entry) (cs : List Client) (i : ℕ) (c : Client) (j : ℕ) (b : Branch) (t : Transaction) (J : Intent) → AllByRecursion (IsClient h log) cs → slice_get cs i ≡ Some c → branch_of c (suc j) ≡ Some b
+  pub committed_on_branch_keeps : (log : List Entry) (cs : List Client) (i : ℕ) (c : Client) (j : ℕ) (b : Branch) (t : Transaction) (J : Intent) → HaveOwnSessions cs → AllByRecursion (IsClient h log) cs → names_in (commits_in log) ≤ 131072
+      → slice_get cs i ≡ Some c → branch_of c (suc j) ≡ Some b
       → b.transaction ≡ Some t → t.joined ≡ Some J → IsTransaction h log (branch_line b) c t → LineFits h log (record (branch_line b) { own = b.own ++ J ∷ [] }) → KeepToSchemas h K log cs
       → KeepToSchemas h K log (slice_set cs i (with_commit_on (with_transaction_on c (suc j) None) (suc j) J))
-  committed_on_branch_keeps log cs i c j b t J are at is opened joined y fit w =
+  committed_on_branch_keeps log cs i c j b t J sessions are few at is opened joined y fit w =
+      let O = opening_document h in
       let x = all_get (IsClient h log) cs i c are at in
       let D = y.before in
-      let branches = all_get (BranchesKeepSchemas h K w.told log) cs i c w.keep.branches at in
-      let before : Keeps w.told log b = all-has (Keeps w.told log) c.branches b branches (branch_there c (suc j) b is).0 in
+      let T = w.told in
+      let told = with_home T J in
+      let branches = all_get (BranchesKeepSchemas h K T log) cs i c w.keep.branches at in
+      let before : Keeps T log b = all-has (Keeps T log) c.branches b branches (branch_there c (suc j) b is).0 in
       let opened_as : edited_on (branch_line b) ≡ Some J = ap (option_and_then (λ (t : Transaction). t.joined)) opened ∙ joined in
-      let mine : AgreesInLine w.told D J = subst (λ o. IfSome o (AgreesInLine w.told D)) opened_as (before.1 D y.main) in
+      let mine : AgreesInLine T D J = subst (λ o. IfSome o (AgreesInLine T D)) opened_as (before.1 D y.main) in
       let so : FitsSoFar D t.rev t.under (Some J) = subst (FitsSoFar D t.rev t.under) joined y.so_far in
+      let own : line_of c (suc j) ≡ Some (branch_line b) = ap (option_map branch_line) is in
+      let apart : (k : ℕ) (l : Line) (u : Transaction) → line_of c k ≡ Some l → k ≢ suc j → l.transaction ≡ Some u → IsTransaction h log l c u → t.rev ≡ u.rev → ⊥ =
+      λ k l u o differ q z e. differ (x.branches.transactions k (suc j) l (branch_line b) u t o own q opened (sym e)) in
+      let anew = same_known O K T told t.rev (subst (IsToldAnew O T told) so.1 (homes_are_told O T J so.0.itself)) in
+      let agree = line log cs i c j b t.rev sessions are few at is y.session y.new apart T told anew w.keep in
       let new = subst (λ r. Has (revisions (commits_of log (branch_line b)) ++ opening ∷ []) r → ⊥) (sym so.1) (branch_new h st log c x b t.rev (branch_there c (suc j) b is).0 y.new) in
-      let more = agrees_more h st K w.told log (branch_line b) D J before.0 y.main new fit (so.2 ∙ y.under) mine (nothing_known K J so.3) in
-      let after : Keeps w.told log (record b { own = b.own ++ J ∷ []; transaction = None }) = (more, nothing_edited h st K w.told log (record (branch_line b) { own = b.own ++ J ∷ []; transaction = None }) refl) in
+      let more = agrees_more h st K told log (branch_line b) D J agree y.main new fit (so.2 ∙ y.under) (own_homes_agree T D J mine) (nothing_known K J so.3) (tells_own T.home J) in
+      let after : Keeps told log (record b { own = b.own ++ J ∷ []; transaction = None }) = (more, nothing_edited h st K told log (record (branch_line b) { own = b.own ++ J ∷ []; transaction = None }) refl) in
       let once : on_branch (suc j) (with_own (J ∷ [])) (on_branch (suc j) (λ y. record y { transaction = None }) c.branches) ≡ on_branch (suc j) (λ y. record y { own = y.own ++ J ∷ []; transaction = None }) c.branches =
       changed_twice (suc j) (λ y. record y { transaction = None }) (with_own (J ∷ [])) (λ y. record y { own = y.own ++ J ∷ []; transaction = None }) (λ y. refl) (λ y. refl) c.branches in
       subst (λ bs. KeepToSchemas h K log (slice_set cs i (with_branches c bs))) (sym once)
-      (branch_changed w.told log cs i c (suc j) b (λ y. record y { own = y.own ++ J ∷ []; transaction = None }) c.ids are at is w.keep after)
+      (branch_told_keeps log cs i c j b t.rev sessions are few at is y.session y.new apart T told anew w.keep (λ y. record y { own = y.own ++ J ∷ []; transaction = None }) c.ids after)
 
   -- ## Branches come and go
 
@@ -393,12 +403,12 @@ module _ (h : HeaderView) (st : IsStart (opening_document h)) (K : Rev → List 
   closed_on_keeps log cs i c (suc j) l are at is w = ended_on_keeps log cs i c (suc j) l None c.ids are at is refl w
 
   -- what was edited is a commit
-  pub committed_on_keeps : (log : List Entry) (cs : List Client) (i : ℕ) (c : Client) (k : ℕ) (l : Line) (t : Transaction) (J : Intent) → AllByRecursion (IsClient h log) cs → slice_get cs i ≡ Some c → line_of c k ≡ Some l
+  pub committed_on_keeps : (log : List Entry) (cs : List Client) (i : ℕ) (c : Client) (k : ℕ) (l : Line) (t : Transaction) (J : Intent) → HaveOwnSessions cs → AllByRecursion (IsClient h log) cs → names_in (commits_in log) ≤ 131072 → slice_get cs i ≡ Some c → line_of c k ≡ Some l
       → l.transaction ≡ Some t → t.joined ≡ Some J → IsTransaction h log l c t → LineFits h log (record l { own = l.own ++ J ∷ [] }) → KeepToSchemas h K log cs
       → KeepToSchemas h K log (slice_set cs i (with_commit_on (with_transaction_on c k None) k J))
-  committed_on_keeps log cs i c zero l t J are at is opened joined y fit w =
+  committed_on_keeps log cs i c zero l t J sessions are few at is opened joined y fit w =
       let same : l ≡ main_line c = sym (one_some (main_line c) l is) in
-      committed_keeps h st K log cs i c t J are at (ap (λ (x : Line). x.transaction) (sym same) ∙ opened) joined (subst (λ x. IsTransaction h log x c t) same y) (subst (λ (x : Line). LineFits h log (record x { own = x.own ++ J ∷ [] })) same fit) w
-  committed_on_keeps log cs i c (suc j) l t J are at is opened joined y fit w =
+      committed_keeps h st K log cs i c t J sessions are few at (ap (λ (x : Line). x.transaction) (sym same) ∙ opened) joined (subst (λ x. IsTransaction h log x c t) same y) (subst (λ (x : Line). LineFits h log (record x { own = x.own ++ J ∷ [] })) same fit) w
+  committed_on_keeps log cs i c (suc j) l t J sessions are few at is opened joined y fit w =
       let b = line_there c j l is in
-      committed_on_branch_keeps log cs i c j b.0 t J are at b.1 (ap (λ (x : Line). x.transaction) b.2 ∙ opened) joined (subst (λ x. IsTransaction h log x c t) (sym b.2) y) (subst (λ (x : Line). LineFits h log (record x { own = x.own ++ J ∷ [] })) (sym b.2) fit) w
+      committed_on_branch_keeps log cs i c j b.0 t J sessions are few at b.1 (ap (λ (x : Line). x.transaction) b.2 ∙ opened) joined (subst (λ x. IsTransaction h log x c t) (sym b.2) y) (subst (λ (x : Line). LineFits h log (record x { own = x.own ++ J ∷ [] })) (sym b.2) fit) w

@@ -312,7 +312,7 @@ module _ (h : HeaderView) (st : IsStart (opening_document h)) (K : Rev → List 
               connected = refl;
               ids = omega arith;
               forks = omega arith;
-              keeps = committed_keeps h st K log cs i c t J are at is joined x next.shown_fit keeps;
+              keeps = committed_keeps h st K log cs i c t J sessions are few at is joined x next.shown_fit keeps;
             })
 
         go : (o : Option Transaction) → c.transaction ≡ o → IfSome o (IsTransaction h log (main_line c) c) → commit c 0 o ≡ (c', a) → GoesOn log cs i c c'

@@ -21,6 +21,7 @@ pub mod LineEditable
 pub mod LineGoing
 pub mod Lookup
 pub mod Meanings
+pub mod OwnHomes
 pub mod Meant
 pub mod Merging
 pub mod OnBranches

@@ -163,7 +163,7 @@ module _ (h : HeaderView) (st : IsStart (opening_document h)) (K : Rev → List 
       by t (Some J) is joined x done =
           let next = client_commits_on h st log c k l t J own line is joined x few in
           near_goes (with_commit_on (with_transaction_on c k None) k J) d (ap (λ (p : Client × Answer). p.0) (sym done)) (near_ended c k J) next
-          (committed_on_keeps h st K log cs i c k l t J are at line is joined x (line_committed_fits h st log c k l line J next) keeps)
+          (committed_on_keeps h st K log cs i c k l t J sessions are few at line is joined x (line_committed_fits h st log c k l line J next) keeps)
 
       go : (o : Option Transaction) → l.transaction ≡ o → IfSome o (IsTransaction h log l c) → commit c k o ≡ (d, a) → GoesOn h st K log cs i c d
       go None is x done = same d (ap (λ (p : Client × Answer). p.0) (sym done))

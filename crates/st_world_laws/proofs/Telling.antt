@@ -1,24 +1,28 @@
 -- Lists of commits keep to their schemas as they go on, and when more is told of commits and nodes.
-use Rattle.std.proofs.Common.{◌≡◌, ◌≢◌, ℕ, true, List, [], ◌∷◌, ◌++◌, Option, Some, None, IfSome, sym, ap, ◌∙◌, subst, inl, inr}
+use Rattle.std.proofs.Common.{◌≡◌, ◌≢◌, ℕ, Bool, true, false, cond, refl, List, [], ◌∷◌, ◌++◌, Option, Some, None, IfSome, sym, ap, ◌∙◌, subst, inl, inr}
 use Rattle.std.specs.List.{AllByRecursion}
 use Rattle.st_ids.specs.Listing.{Has}
 use Rattle.st_ids.specs.Root.{opening}
+use Rattle.st_ids.specs.declared.names.NodeId.{NodeId}
 use Rattle.st_ids.specs.declared.names.Rev.{Rev}
 use Rattle.st_schema.specs.Schema.{SchemaView, is_sound}
 use Rattle.st_marks.specs.declared.intents.Intent.{Intent}
 use Rattle.st_marks.specs.Document.{Document, IsSoundInForm, revs}
-use Rattle.st_marks.specs.Intent.{IsIntent}
+use Rattle.st_marks.specs.Intent.{IsIntent, is_new}
 use Rattle.st_marks.specs.Run.{Run, done, next}
 use Rattle.st_marks.specs.Verdict.{carried_document}
 use Rattle.st_marks.proofs.OneVerdict.{carried_extends, one_verdict}
 use Rattle.st_log_laws.proofs.Verdicts.{has_verdict}
+use Rattle.st_marks.proofs.Shared.{new_node-rev}
 use Rattle.st_marks.proofs.Members.{all-has, append_left, append_right, has-all, map-has}
 use Rattle.st_lemmas.proofs.Lists.{AllByRecursion-append}
 use Rattle.st_log_laws.specs.Names.{HaveNewRevisions, revisions}
 use Rattle.st_log_laws.specs.Turns.{FitInTurn, IsSublist}
 use Rattle.st_log_laws.proofs.Turns.{made_in_run, turn_extends}
 use Rattle.st_part_laws.proofs.Chains.{last-has}
+use Rattle.st_schema_laws.specs.Agreeing.{TellsHomes}
 use Rattle.st_schema_laws.specs.AgreeingInEffect.{AgreesInLine, ConformsInEffect, Told, with_commit, with_home}
+use Rattle.st_edits.specs.Fields.{put_register}
 use Rattle.st_edits.specs.InEffect.{last_in_effect, schema_in_effect}
 use Rattle.st_schema_laws.specs.Lines.{IsLine}
 use Rattle.st_schema_laws.proofs.Earlier.{made_among}
@@ -40,33 +44,54 @@ module _ (K : Rev → List ℕ → Type 0) (As Bs : List Intent) (all : AllByRec
 
 module _ {K : Rev → List ℕ → Type 0} (T : Told) (O : Document) where
   pub goes_front : (As Bs : List Intent) → KeepsLine K T O (As ++ Bs) → KeepsLine K T O As
-  goes_front As Bs w = record { line = line_front T O As Bs w.line; known = known_front K As Bs w.known }
+  goes_front As Bs w = record {
+    line = line_front T O As Bs w.line;
+    known = known_front K As Bs w.known;
+    homes = has-all (TellsHomes T.home) As (λ N i. all-has (TellsHomes T.home) (As ++ Bs) N w.homes (append_left As Bs N i));
+    first = w.first;
+  }
 
   -- what comes after a list comes after a longer one
   pub goes_longer : (As Bs Ns : List Intent) → IsSublist As Bs → KeepsLine K T O (As ++ Ns) → KeepsLine K T O Bs → FitInTurn O (Bs ++ Ns) → HaveNewRevisions (opening ∷ []) (Bs ++ Ns) → KeepsLine K T O (Bs ++ Ns)
   goes_longer As Bs Ns among w longer fit new = record {
     line = line_goes_on_longer T O As Bs Ns among w.line longer.line fit new;
     known = AllByRecursion-append (IsKnownBy K) Bs Ns longer.known (known_rest K As Ns w.known);
+    homes = AllByRecursion-append (TellsHomes T.home) Bs Ns longer.homes (has-all (TellsHomes T.home) Ns (λ N i. all-has (TellsHomes T.home) (As ++ Ns) N w.homes (append_right As Ns N i)));
+    first = longer.first;
   }
 
   -- one commit more, made under the last schema in effect
   pub goes_more : (Ns : List Intent) (D : Document) (N : Intent) → KeepsLine K T O Ns → Run O Ns D → (Has (revisions Ns ++ opening ∷ []) N.rev → ⊥) → FitInTurn O (Ns ++ N ∷ []) → N.under ≡ last_in_effect D → AgreesInLine T D N → IsKnownBy K N
-      → KeepsLine K T O (Ns ++ N ∷ [])
-  goes_more Ns D N w run fresh fit under agrees known = record {
+      → TellsHomes T.home N → KeepsLine K T O (Ns ++ N ∷ [])
+  goes_more Ns D N w run fresh fit under agrees known homes = record {
     line = commit_goes_on T O D Ns N w.line run fresh fit under agrees;
     known = AllByRecursion-append (IsKnownBy K) Ns (N ∷ []) w.known (known, tt);
+    homes = AllByRecursion-append (TellsHomes T.home) Ns (N ∷ []) w.homes (homes, tt);
+    first = w.first;
   }
 
 -- a commit of data brings in no schema
 pub nothing_known : (K : Rev → List ℕ → Type 0) (N : Intent) → N.schema ≡ None → IsKnownBy K N
 nothing_known K N none = subst (λ o. IfSome o (K N.rev)) (sym none) tt
 
+-- ## Intents
+
+-- commits that can be carried out in turn are intents
+pub turn_intents : (Ns : List Intent) (D : Document) → IsSoundInForm D → FitInTurn D Ns → AllByRecursion IsIntent Ns
+turn_intents [] D s f = tt
+turn_intents (N ∷ Ns) D s f = (
+  f.0.itself,
+  let b = has_verdict D N s in turn_intents Ns (carried_document b.0 D N) (carried_extends D N b.0 s f.0 f.1 b.1).after (f.2 b.0 b.1),
+)
+
 -- ## More is told
 
--- what is told anew of a revision leaves lists that don't have it, and what is edited after such a list
+-- what is told anew of a revision leaves lists that don't have it, and what is edited after such a list, and the homes of nodes
+-- of other revisions
 pub record IsToldAnew (O : Document) (T U : Told) (r : Rev) : Type 0 where
   pub lines : (Ns : List Intent) → IsLine T O Ns → (Has (revisions Ns ++ opening ∷ []) r → ⊥) → IsLine U O Ns
   pub edits : (Ns : List Intent) (D : Document) (J : Intent) → IsLine T O Ns → Run O Ns D → FitInTurn D (J ∷ []) → J.under ≡ last_in_effect D → (Has (revisions Ns ++ opening ∷ []) r → ⊥) → J.rev ≢ r → AgreesInLine T D J → AgreesInLine U D J
+  pub homes : (m : NodeId) → m.0.rev ≢ r → U.home m ≡ T.home m
 
 -- the last schema in effect came before the list or in it
 last_among : (T : Told) (O : Document) (Ns : List Intent) (D : Document) → IsLine T O Ns → Run O Ns D → Has (revisions Ns ++ opening ∷ []) (last_in_effect D)
@@ -74,7 +99,7 @@ last_among T O Ns D l run = made_among (opening ∷ []) Ns (last_in_effect D) (l
 
 -- under which schema a commit was made, and the schema that it brings in
 pub commit_is_told : (O : Document) (T : Told) (N : Intent) (new : SchemaView) → IsToldAnew O T (with_commit T N new) N.rev
-commit_is_told O T N new = record { lines = λ Ns l fresh. line_told T O Ns l N fresh new; edits = edits }
+commit_is_told O T N new = record { lines = λ Ns l fresh. line_told T O Ns l N fresh new; edits = edits; homes = λ m other. refl }
   where
     edits : (Ns : List Intent) (D : Document) (J : Intent) → IsLine T O Ns → Run O Ns D → FitInTurn D (J ∷ []) → J.under ≡ last_in_effect D → (Has (revisions Ns ++ opening ∷ []) N.rev → ⊥) → J.rev ≢ N.rev → AgreesInLine T D J → AgreesInLine (with_commit T N new) D J
     edits Ns D J l run fit under fresh apart a =
@@ -86,8 +111,12 @@ commit_is_told O T N new = record { lines = λ Ns l fresh. line_told T O Ns l N 
 
 -- the homes of its new nodes
 pub homes_are_told : (O : Document) (T : Told) (N : Intent) → IsIntent N → IsToldAnew O T (with_home T N) N.rev
-homes_are_told O T N itself = record { lines = λ Ns l fresh. line_at_home T O Ns l N fresh itself; edits = edits }
+homes_are_told O T N itself = record { lines = λ Ns l fresh. line_at_home T O Ns l N fresh itself; edits = edits; homes = λ m other. home m other (is_new N m) refl }
   where
+    home : (m : NodeId) → m.0.rev ≢ N.rev → (b : Bool) → is_new N m ≡ b → cond b (put_register N m) (T.home m) ≡ T.home m
+    home m other false e = refl
+    home m other true e = absurd (other (new_node-rev N itself m e))
+
     edits : (Ns : List Intent) (D : Document) (J : Intent) → IsLine T O Ns → Run O Ns D → FitInTurn D (J ∷ []) → J.under ≡ last_in_effect D → (Has (revisions Ns ++ opening ∷ []) N.rev → ⊥) → J.rev ≢ N.rev → AgreesInLine T D J → AgreesInLine (with_home T N) D J
     edits Ns D J l run fit under fresh apart a =
         (list_at_home T N itself (J ∷ []) (revisions Ns ++ opening ∷ []) D (made_in_run (opening ∷ []) l.fit run l.made) fit (λ h. elim h [ inl e ↦ apart e | inr q ↦ fresh q ]) (a, λ v is. tt)).0
@@ -100,6 +129,7 @@ new_is_told O T N itself =
     record {
       lines = λ Ns l fresh. two.lines Ns (one.lines Ns l fresh) fresh;
       edits = λ Ns D J l run fit under fresh apart a. two.edits Ns D J (one.lines Ns l fresh) run fit under fresh apart (one.edits Ns D J l run fit under fresh apart a);
+      homes = λ m other. two.homes m other ∙ one.homes m other;
     }
 
 -- more is told of a revision, and schemas of other revisions stay known
@@ -115,8 +145,13 @@ pub goes_told : (K L : Rev → List ℕ → Type 0) (T U : Told) (O : Document) 
 goes_told K L T U O r Ns anew fresh w = record {
   line = anew.told.lines Ns w.line fresh;
   known = has-all (IsKnownBy L) Ns (λ N i. go N (apart N i) N.schema (all-has (IsKnownBy K) Ns N w.known i));
+  homes = has-all (TellsHomes U.home) Ns (λ N i m e. anew.told.homes m (λ q. apart N i (sym (new_node-rev N (intent N i) m e) ∙ q)) ∙ all-has (TellsHomes T.home) Ns N w.homes i m e);
+  first = λ m e. anew.told.homes m (λ q. fresh (append_right (revisions Ns) (opening ∷ []) r (inl (sym e ∙ q)))) ∙ w.first m e;
 }
   where
+    intent : (N : Intent) → Has Ns N → IsIntent N
+    intent N i = all-has IsIntent Ns N (turn_intents Ns O w.line.sound w.line.fit) i
+
     apart : (N : Intent) → Has Ns N → N.rev ≢ r
     apart N i e = fresh (append_left (revisions Ns) (opening ∷ []) r (subst (Has (revisions Ns)) e (map-has (λ (X : Intent). X.rev) Ns N i)))
 
@@ -132,15 +167,7 @@ in_effect_sound T D s here =
     let last = some_last (revs D.schemas) s.in_effect.begun in
     ap is_sound (read_as_told T D s here) ∙ here.widening.sound (last_in_effect D) (last-has (revs D.schemas) (last_in_effect D) last)
 
--- ## Intents
-
--- commits that can be carried out in turn are intents
-pub turn_intents : (Ns : List Intent) (D : Document) → IsSoundInForm D → FitInTurn D Ns → AllByRecursion IsIntent Ns
-turn_intents [] D s f = tt
-turn_intents (N ∷ Ns) D s f = (
-  f.0.itself,
-  let b = has_verdict D N s in turn_intents Ns (carried_document b.0 D N) (carried_extends D N b.0 s f.0 f.1 b.1).after (f.2 b.0 b.1),
-)
+-- ## Runs
 
 -- the rest of a run, after a front of its commits
 pub run_after : {As Ms : List Intent} {O D E : Document} → Run O As D → Run O (As ++ Ms) E → Run D Ms E

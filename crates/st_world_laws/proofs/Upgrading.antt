@@ -28,6 +28,7 @@ use Rattle.st_lists.specs.declared.lists.Branch.{Branch}
 use Rattle.st_lists.specs.declared.lists.Client.{Client}
 use Rattle.st_lists.specs.declared.lists.Entry.{Entry}
 use Rattle.st_lists.specs.declared.lists.Transaction.{Transaction}
+use Rattle.st_schema_laws.specs.Agreeing.{TellsHomes}
 use Rattle.st_schema_laws.specs.AgreeingInEffect.{ConformsInEffect, with_commit as told_with_commit}
 use Rattle.st_edits.specs.InEffect.{schema_in_effect}
 use Rattle.st_schema_laws.specs.Widening.{IsUpgrade}
@@ -147,6 +148,8 @@ module _ (h : HeaderView) (st : IsStart (opening_document h)) (K : Rev → List 
         let line : KeepsLine L told O (commits_of log (main_line c) ++ N ∷ []) = record {
           line = upgrade_goes_on T O D (commits_of log (main_line c)) N new mine.line main (next_is_new h st log c k D main) fit refl refl up;
           known = AllByRecursion-append (IsKnownBy L) (commits_of log (main_line c)) (N ∷ []) others.known (known, tt);
+          homes = AllByRecursion-append (TellsHomes told.home) (commits_of log (main_line c)) (N ∷ []) others.homes (λ m made. absurd (let e : false ≡ true = made in cc), tt);
+          first = others.first;
         } in
         told_keeps h st K log c N.rev k few refl all_fresh L T told anew cs i (with_new_commit c N) sessions are at keeps.keep (subst (KeepsLine L told O) longer line)
         (nothing_edited h st K told log (main_line (with_new_commit c N)) (ap (option_and_then (λ (t : Transaction). t.joined)) none)) beside

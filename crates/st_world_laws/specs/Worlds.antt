@@ -9,8 +9,10 @@ use Rattle.st_tree.specs.Preorder.{cell_named, node_named}
 use Rattle.st_log_laws.specs.Names.{HaveNewRevisions, revisions}
 use Rattle.st_log_laws.specs.Turns.{FitInTurn}
 use Rattle.serde_json.specs.Written.{compact_text}
+use Rattle.st_ids.specs.declared.names.NodeId.{NodeId}
 use Rattle.st_ids.specs.declared.names.Rev.{Rev}
 use Rattle.st_schema.specs.Written.{schema_data}
+use Rattle.st_schema_laws.specs.Agreeing.{TellsHomes}
 use Rattle.st_schema_laws.specs.AgreeingInEffect.{AgreesInLine, Told}
 use Rattle.st_schema_laws.specs.Lines.{IsLine}
 use Rattle.st_schema.specs.Schema.{is_sound}
@@ -20,6 +22,7 @@ use Rattle.st_clusters.specs.Log.{AreInTurn, GoOn, carried_count}
 use Rattle.st_clusters.specs.declared.ids.IdRange.{IdRange}
 use Rattle.st_lists.specs.Log.{commit_of, commits_in, intents_of, is_text, log_and_waiting, own_in_flight, range_of, ranges_in, ranges_of, sessions_in, waiting}
 use Rattle.st_lists.specs.Lines.{AreStanding, HasHead, HaveOwnTransactions, Line, all_commits, branch_line, commits_of, edited_on, main_line, own_of}
+use Rattle.st_edits.specs.Fields.{register_in}
 use Rattle.st_edits.specs.InEffect.{last_in_effect}
 use Rattle.st_world.specs.World.{opening_document}
 use Rattle.st_lists.specs.Names.{names_in, unsequenced}
@@ -142,11 +145,17 @@ pub record IsHeader (h : HeaderView) : Type 0 where
   pub schema : is_sound h.schema ≡ true
   pub tree : may_open h.schema h.tree ≡ true
 
+-- the homes that are told of the opening's nodes are the registers in which they stand
+abbrev pub TellsOpening : Told → Document → Type 0
+TellsOpening T O = (m : NodeId) → m.0.rev ≡ opening → T.home m ≡ register_in (O.place m)
+
 -- some commits, one after the other from the document opened, agree with the schemas under which they were made, as it is
--- told, and each schema that they bring in is known
+-- told, and each schema that they bring in is known; and of each node its maker's home is told
 pub record KeepsLine (K : Rev → List ℕ → Type 0) (T : Told) (O : Document) (Ns : List Intent) : Type 0 where
   pub line : IsLine T O Ns
   pub known : AllByRecursion (IsKnownBy K) Ns
+  pub homes : AllByRecursion (TellsHomes T.home) Ns
+  pub first : TellsOpening T O
 
 -- those of a line do
 abbrev pub CommitsKeepSchemas : HeaderView → (Rev → List ℕ → Type 0) → Told → List Entry → Line → Type 0
