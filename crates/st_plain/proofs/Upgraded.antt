@@ -198,7 +198,7 @@ module _ (w : World) (i : ℕ) (c : Client) (k : Replica) (s : IsSound w) (at_c 
             let st = start_of w w.steps s in
             let may = may_upgrade c old (length D.schemas) new is in
             let b : IsKeptBeside w.schemas (next_rev c) new schemas = subst (λ x. HasKeptOf x new w.schemas schemas) (ap (λ (q : Client × Answer). q.1) (sym e)) noted in
-            let g = upgrade_goes h st (HasReading w.schemas) log w.lists.clients s.sessions are s.few_names s.schema i c at_c may.none may.room D main new sound (subst (λ v. wider_of v new ≡ Ok tt) is_old may.wide)
+            let g = upgrade_goes h st (HasReading w.schemas) log w.lists.clients s.sessions are s.few_names s.schema i c at_c may.none may.room D main may.few new sound (subst (λ v. wider_of v new ≡ Ok tt) is_old may.wide)
             (HasReading schemas) (others_kept w.schemas schemas (next_rev c) new b) (kept_reading w.schemas schemas (next_rev c) new sound b) in
             subst (λ (d : Client). After d k' schemas) (ap (λ (q : Client × Answer). q.0) e)
             (sound_client_with w i c (with_new_commit c N) k' schemas s at_c (record { client = g.client; kept = kept_committed h st log c k k' N may.none one.kept m }) g.session g.connected g.ids g.forks g.keeps)

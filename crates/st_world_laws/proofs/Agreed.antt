@@ -81,8 +81,8 @@ use Rattle.st_schema_laws.proofs.Told.{commit_at_home}
 use Rattle.st_schema_laws.proofs.Lines.{undo_goes_on, line_after_conforms}
 use Rattle.st_schema_laws.specs.Lines.{IsLine}
 use Rattle.st_world_laws.proofs.OwnHomes.{own_homes_agree}
-use Rattle.st_world_laws.proofs.Telling.{GoesAnew, same_known, run_after, IsToldAnew, goes_front, goes_longer, goes_more, goes_told, nothing_known, commit_is_told, homes_are_told, new_is_told}
-use Rattle.st_world_laws.specs.Worlds.{IsKnownBy}
+use Rattle.st_world_laws.proofs.Telling.{GoesAnew, made_as_told, same_known, run_after, IsToldAnew, goes_front, goes_longer, goes_more, goes_told, nothing_known, commit_is_told, homes_are_told, new_is_told}
+use Rattle.st_world_laws.specs.Worlds.{IsKnownBy, IsMadeAsTold}
 use Rattle.st_schema_laws.specs.AgreeingInEffect.{Told, AgreesInLine, ConformsInEffect, with_home, with_commit as told_with_commit}
 
 -- what is told before any commit
@@ -107,7 +107,7 @@ begun_keeps h K k known = record {
         agree = tt;
       };
       known = tt;
-      homes = tt;
+      made = tt;
       first = λ m e. refl;
     };
     shown = tt;
@@ -136,7 +136,7 @@ known_more K L more Ns all = has-all (IsKnownBy L) Ns (λ N i. go N N.schema (al
     go N (Some text) k = more N.rev text k
 
 line_known_more : (K L : Rev → List ℕ → Type 0) → ((r : Rev) (text : List ℕ) → K r text → L r text) → (T : Told) (O : Document) (Ns : List Intent) → KeepsLine K T O Ns → KeepsLine L T O Ns
-line_known_more K L more T O Ns w = record { line = w.line; known = known_more K L more Ns w.known; homes = w.homes; first = w.first }
+line_known_more K L more T O Ns w = record { line = w.line; known = known_more K L more Ns w.known; made = w.made; first = w.first }
 
 pub knows_more : (h : HeaderView) (K L : Rev → List ℕ → Type 0) (log : List Entry) (cs : List Client) → ((r : Rev) (text : List ℕ) → K r text → L r text) → KeepToSchemas h K log cs → KeepToSchemas h L log cs
 knows_more h K L log cs more w =
@@ -244,10 +244,10 @@ module _ (h : HeaderView) (st : IsStart (opening_document h)) (K : Rev → List 
 
   -- a line has one commit more, which was made under the last schema in effect and agrees with it
   pub agrees_more : (T : Told) (log : List Entry) (l : Line) (D : Document) (N : Intent) → CommitsKeepSchemas h K T log l → HasHead (opening_document h) log l D → (Has (revisions (commits_of log l) ++ opening ∷ []) N.rev → ⊥)
-      → LineFits h log (record l { own = l.own ++ N ∷ [] }) → N.under ≡ last_in_effect D → AgreesInLine T D N → IsKnownBy K N → TellsHomes T.home N → CommitsKeepSchemas h K T log (record l { own = l.own ++ N ∷ [] })
-  agrees_more T log l D N agree head fresh fit under keeps known homes =
+      → LineFits h log (record l { own = l.own ++ N ∷ [] }) → N.under ≡ last_in_effect D → AgreesInLine T D N → IsKnownBy K N → IsMadeAsTold T N → CommitsKeepSchemas h K T log (record l { own = l.own ++ N ∷ [] })
+  agrees_more T log l D N agree head fresh fit under keeps known made =
       let same = own_more h st log l N in
-      subst (Agree T) same (goes_more T (opening_document h) (commits_of log l) D N agree head fresh (subst (FitInTurn (opening_document h)) (sym same) fit) under keeps known homes)
+      subst (Agree T) same (goes_more T (opening_document h) (commits_of log l) D N agree head fresh (subst (FitInTurn (opening_document h)) (sym same) fit) under keeps known made)
 
   -- a client that stays as it is
   pub same_keeps : (log : List Entry) (cs : List Client) (i : ℕ) (c c' : Client) → slice_get cs i ≡ Some c → c ≡ c' → KeepToSchemas h K log cs → KeepToSchemas h K log (slice_set cs i c')
@@ -623,7 +623,7 @@ module _ (h : HeaderView) (st : IsStart (opening_document h)) (K : Rev → List 
       let beside = branches_told log c N.rev k few session fresh K T told anew c k own (λ b t j is x. line_next_apart h st log c (branch_line b) t N.rev x m.rev) (all_get (Branches T log) cs i c w.keep.branches at) in
       let here = line_after_conforms told O (commits_of log (main_line c)) line.line D main in
       let new = not_on log c N.rev k few session fresh K T told anew c own (main_line c) (main_among h st log c k) in
-      let shown : Shown told log (with_new_commit c N) = agrees_more told log (main_line c) D N line main new fit m.under (m.agrees told here (tells_own T.home N) (told_under T.under N)) (nothing_known K N m.no_schema) (tells_own T.home N) in
+      let shown : Shown told log (with_new_commit c N) = agrees_more told log (main_line c) D N line main new fit m.under (m.agrees told here (tells_own T.home N) (told_under T.under N)) (nothing_known K N m.no_schema) (made_as_told told N (tells_own T.home N) m.no_schema) in
       told_keeps log c N.rev k few session fresh K T told anew cs i (with_new_commit c N) sessions are at w.keep shown (nothing_edited told log (main_line (with_new_commit c N)) (ap (option_and_then (λ (t : Transaction). t.joined)) none)) beside
 
   pub edited_keeps : (log : List Entry) (cs : List Client) (i : ℕ) (c c' : Client) (D : Document) (word : EditWord) (r : Result Intent EditFault) (a : Answer) → HaveOwnSessions cs → AllByRecursion (IsClient h log) cs → names_in (commits_in log) ≤ 131072
@@ -654,12 +654,14 @@ module _ (h : HeaderView) (st : IsStart (opening_document h)) (K : Rev → List 
       let whole : list ≡ at.front ++ u.commit ∷ at.rest = at.list in
       let same : u.after ≡ E = one_run u.now run in
       let on : Run u.before (u.commit ∷ at.rest) E = run_after at.before (subst (λ l. Run O l E) whole run) in
+      let anew = same_known O K T (told_with_commit T B (T.view B.under)) B.rev (commit_is_told O T B (T.view B.under)) in
+      let before = goes_told K K T (told_with_commit T B (T.view B.under)) O B.rev list anew new agree in
       record {
         line = subst (λ l. IsLine (told_with_commit T B (T.view B.under)) O (l ++ B ∷ [])) (sym whole)
             (undo_goes_on T O u.before E at.front at.rest u.commit B fresh (subst (IsLine T O) whole agree.line) at.before on (subst (λ l. Has (revisions l ++ opening ∷ []) B.rev → ⊥) whole new)
             (subst (λ l. FitInTurn O (l ++ B ∷ [])) whole fit) data_only at.verdict (subst (λ F. IsBack u.before (carried_document Verdict.Sound u.before u.commit) fresh (last_in_effect F) B) same u.back));
         known = AllByRecursion-append (IsKnownBy K) list (B ∷ []) agree.known (nothing_known K B none, tt);
-        homes = AllByRecursion-append (TellsHomes T.home) list (B ∷ []) agree.homes (λ m new. absurd (makes_none B m u.back.nothing_new.0 new), tt);
+        made = AllByRecursion-append (IsMadeAsTold (told_with_commit T B (T.view B.under))) list (B ∷ []) before.made (made_as_told (told_with_commit T B (T.view B.under)) B (λ m made. absurd (makes_none B m u.back.nothing_new.0 made)) none, tt);
         first = agree.first;
       }
 
@@ -781,5 +783,5 @@ module _ (h : HeaderView) (st : IsStart (opening_document h)) (K : Rev → List 
       let beside = branches_told log c t.rev k few x.session x.new K T told anew c k own (λ b u j opened y e. not_main h st log c b t u k j is opened e) (all_get (Branches T log) cs i c w.keep.branches at) in
       let new = subst (λ r. Has (revisions (commits_of log (main_line c)) ++ opening ∷ []) r → ⊥) (sym so.1) (line_new h st log c k 0 (main_line c) t.rev refl x.new) in
       told_keeps log c t.rev k few x.session x.new K T told anew cs i (with_commit (without_transaction c) J) sessions are at w.keep
-      (agrees_more told log (main_line c) x.before J line x.main new fit (so.2 ∙ x.under) (own_homes_agree T x.before J mine) (nothing_known K J so.3) (tells_own T.home J))
+      (agrees_more told log (main_line c) x.before J line x.main new fit (so.2 ∙ x.under) (own_homes_agree T x.before J mine) (nothing_known K J so.3) (made_as_told told J (tells_own T.home J) so.3))
       (nothing_edited told log (main_line (with_commit (without_transaction c) J)) refl) beside

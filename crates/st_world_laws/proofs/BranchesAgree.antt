@@ -44,7 +44,7 @@ use Rattle.st_world.specs.declared.edit_word.EditWord.{EditWord}
 use Rattle.st_part_laws.proofs.Told.{told_under}
 use Rattle.st_log_laws.proofs.Shorter.{new_shorter}
 use Rattle.st_schema_laws.proofs.Lines.{line_after_conforms}
-use Rattle.st_world_laws.proofs.Telling.{GoesAnew, IsToldAnew, same_known, goes_longer, homes_are_told, nothing_known, new_is_told}
+use Rattle.st_world_laws.proofs.Telling.{GoesAnew, IsToldAnew, made_as_told, same_known, goes_longer, homes_are_told, nothing_known, new_is_told}
 use Rattle.st_world_laws.proofs.OwnHomes.{own_homes_agree}
 use Rattle.st_schema_laws.specs.AgreeingInEffect.{Told, AgreesInLine, ConformsInEffect, with_home, with_commit}
 
@@ -156,7 +156,7 @@ module _ (h : HeaderView) (st : IsStart (opening_document h)) (K : Rev → List 
       let here = conforms log cs i c j b N.rev sessions are few at is session fresh apart T told anew w.keep D head in
       let mine = line log cs i c j b N.rev sessions are few at is session fresh apart T told anew w.keep in
       let new = branch_new h st log c x b N.rev (branch_there c (suc j) b is).0 fresh in
-      let more = agrees_more h st K told log (branch_line b) D N mine head new fit m.under (m.agrees told here (tells_own T.home N) (told_under T.under N)) (nothing_known K N m.no_schema) (tells_own T.home N) in
+      let more = agrees_more h st K told log (branch_line b) D N mine head new fit m.under (m.agrees told here (tells_own T.home N) (told_under T.under N)) (nothing_known K N m.no_schema) (made_as_told told N (tells_own T.home N) m.no_schema) in
       let after : Keeps told log (record b { own = b.own ++ N ∷ [] }) =
       (more, nothing_edited h st K told log (record (branch_line b) { own = b.own ++ N ∷ [] }) (ap (option_and_then (λ (t : Transaction). t.joined)) closed)) in
       branch_told_keeps log cs i c j b N.rev sessions are few at is session fresh apart T told anew w.keep (λ y. record y { own = y.own ++ N ∷ [] }) (c.ids + 1) after
@@ -217,7 +217,7 @@ module _ (h : HeaderView) (st : IsStart (opening_document h)) (K : Rev → List 
       let anew = same_known O K T told t.rev (subst (IsToldAnew O T told) so.1 (homes_are_told O T J so.0.itself)) in
       let agree = line log cs i c j b t.rev sessions are few at is y.session y.new apart T told anew w.keep in
       let new = subst (λ r. Has (revisions (commits_of log (branch_line b)) ++ opening ∷ []) r → ⊥) (sym so.1) (branch_new h st log c x b t.rev (branch_there c (suc j) b is).0 y.new) in
-      let more = agrees_more h st K told log (branch_line b) D J agree y.main new fit (so.2 ∙ y.under) (own_homes_agree T D J mine) (nothing_known K J so.3) (tells_own T.home J) in
+      let more = agrees_more h st K told log (branch_line b) D J agree y.main new fit (so.2 ∙ y.under) (own_homes_agree T D J mine) (nothing_known K J so.3) (made_as_told told J (tells_own T.home J) so.3) in
       let after : Keeps told log (record b { own = b.own ++ J ∷ []; transaction = None }) = (more, nothing_edited h st K told log (record (branch_line b) { own = b.own ++ J ∷ []; transaction = None }) refl) in
       let once : on_branch (suc j) (with_own (J ∷ [])) (on_branch (suc j) (λ y. record y { transaction = None }) c.branches) ≡ on_branch (suc j) (λ y. record y { own = y.own ++ J ∷ []; transaction = None }) c.branches =
       changed_twice (suc j) (λ y. record y { transaction = None }) (with_own (J ∷ [])) (λ y. record y { own = y.own ++ J ∷ []; transaction = None }) (λ y. refl) (λ y. refl) c.branches in

@@ -119,7 +119,7 @@ module _ (h : HeaderView) (w : WorldState) (s : IsWorld h w) where
             let shown = x.2 in
             let there : shown.0 ≡ E = sym (shown.2 ∙ ap (λ (o : Option Transaction). with_open shown.0 (option_and_then (λ (t : Transaction). t.joined) o)) may.none) in
             let head = subst (HasHead (opening_document h) w.log (main_line c)) there shown.1 in
-            let goes = upgrade_goes h st Any w.log w.clients s.sessions s.clients s.few_names s.schema i c at may.none may.room E head new sound may.wide Any (λ r t apart k. tt) tt in
+            let goes = upgrade_goes h st Any w.log w.clients s.sessions s.clients s.few_names s.schema i c at may.none may.room E head may.few new sound may.wide Any (λ r t apart k. tt) tt in
             now x.1 (subst Goes (ap (λ (p : Client × Answer). p.0) u) goes) x.4
 
     acked : c.connected ≡ true → with_client w i (with_ack c, Ack c.received) ≡ (v, a) → IsWorld h v

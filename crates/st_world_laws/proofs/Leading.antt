@@ -318,7 +318,7 @@ module _ (h : HeaderView) (w : WorldState) (s : IsWorld h w) where
               Upgrades (next_rev c),
               (E, with_new_commit c N, shown, ap (upgrade c N) e, refl),
               λ sound.
-                  let g = upgrade_goes h st Any w.log w.clients s.sessions s.clients s.few_names s.schema i c at may.none may.room E (subst (HasHead (opening_document h) w.log (main_line c)) there head) new sound may.wide Any (λ r t apart k. tt) tt in
+                  let g = upgrade_goes h st Any w.log w.clients s.sessions s.clients s.few_names s.schema i c at may.none may.room E (subst (HasHead (opening_document h) w.log (main_line c)) there head) may.few new sound may.wide Any (λ r t apart k. tt) tt in
                   set_sound h w i c (with_new_commit c N) s at g.client g.session g.keeps,
             )
 

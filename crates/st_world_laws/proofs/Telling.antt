@@ -1,8 +1,10 @@
 -- Lists of commits keep to their schemas as they go on, and when more is told of commits and nodes.
-use Rattle.std.proofs.Common.{◌≡◌, ◌≢◌, ℕ, Bool, true, false, cond, refl, List, [], ◌∷◌, ◌++◌, Option, Some, None, IfSome, sym, ap, ◌∙◌, subst, inl, inr}
+use Rattle.std.proofs.Common.{◌≡◌, ◌≢◌, ◌<◌, length, ℕ, Bool, true, false, cond, refl, List, [], ◌∷◌, ◌++◌, Option, Some, None, IfSome, sym, ap, ◌∙◌, subst, inl, inr}
 use Rattle.std.specs.List.{AllByRecursion}
 use Rattle.st_ids.specs.Listing.{Has}
+use Rattle.st_ids.specs.Order.{same_rev}
 use Rattle.st_ids.specs.Root.{opening}
+use Rattle.st_ids.proofs.Orders.{same_rev-true}
 use Rattle.st_ids.specs.declared.names.NodeId.{NodeId}
 use Rattle.st_ids.specs.declared.names.Rev.{Rev}
 use Rattle.st_schema.specs.Schema.{SchemaView, is_sound}
@@ -25,13 +27,12 @@ use Rattle.st_schema_laws.specs.AgreeingInEffect.{AgreesInLine, ConformsInEffect
 use Rattle.st_edits.specs.Fields.{put_register}
 use Rattle.st_edits.specs.InEffect.{last_in_effect, schema_in_effect}
 use Rattle.st_schema_laws.specs.Lines.{IsLine}
-use Rattle.st_schema_laws.proofs.Earlier.{made_among}
+use Rattle.st_schema_laws.proofs.Earlier.{made_among, unders_made}
 use Rattle.st_schema_laws.proofs.EditsInLine.{some_last}
 use Rattle.st_schema_laws.proofs.Lines.{commit_goes_on, last_made, line_at_home, line_front, line_goes_on_longer, line_told}
 use Rattle.st_schema_laws.proofs.Read.{read_as_told}
 use Rattle.st_schema_laws.proofs.Told.{list_at_home, list_told}
-use Rattle.st_world_laws.specs.Worlds.{KeepsLine}
-use Rattle.st_world_laws.specs.Worlds.{IsKnownBy}
+use Rattle.st_world_laws.specs.Worlds.{IsKnownBy, IsMadeAsTold, KeepsLine}
 
 -- ## Lists
 
@@ -47,7 +48,7 @@ module _ {K : Rev → List ℕ → Type 0} (T : Told) (O : Document) where
   goes_front As Bs w = record {
     line = line_front T O As Bs w.line;
     known = known_front K As Bs w.known;
-    homes = has-all (TellsHomes T.home) As (λ N i. all-has (TellsHomes T.home) (As ++ Bs) N w.homes (append_left As Bs N i));
+    made = has-all (IsMadeAsTold T) As (λ N i. all-has (IsMadeAsTold T) (As ++ Bs) N w.made (append_left As Bs N i));
     first = w.first;
   }
 
@@ -56,23 +57,27 @@ module _ {K : Rev → List ℕ → Type 0} (T : Told) (O : Document) where
   goes_longer As Bs Ns among w longer fit new = record {
     line = line_goes_on_longer T O As Bs Ns among w.line longer.line fit new;
     known = AllByRecursion-append (IsKnownBy K) Bs Ns longer.known (known_rest K As Ns w.known);
-    homes = AllByRecursion-append (TellsHomes T.home) Bs Ns longer.homes (has-all (TellsHomes T.home) Ns (λ N i. all-has (TellsHomes T.home) (As ++ Ns) N w.homes (append_right As Ns N i)));
+    made = AllByRecursion-append (IsMadeAsTold T) Bs Ns longer.made (has-all (IsMadeAsTold T) Ns (λ N i. all-has (IsMadeAsTold T) (As ++ Ns) N w.made (append_right As Ns N i)));
     first = longer.first;
   }
 
   -- one commit more, made under the last schema in effect
   pub goes_more : (Ns : List Intent) (D : Document) (N : Intent) → KeepsLine K T O Ns → Run O Ns D → (Has (revisions Ns ++ opening ∷ []) N.rev → ⊥) → FitInTurn O (Ns ++ N ∷ []) → N.under ≡ last_in_effect D → AgreesInLine T D N → IsKnownBy K N
-      → TellsHomes T.home N → KeepsLine K T O (Ns ++ N ∷ [])
-  goes_more Ns D N w run fresh fit under agrees known homes = record {
+      → IsMadeAsTold T N → KeepsLine K T O (Ns ++ N ∷ [])
+  goes_more Ns D N w run fresh fit under agrees known made = record {
     line = commit_goes_on T O D Ns N w.line run fresh fit under agrees;
     known = AllByRecursion-append (IsKnownBy K) Ns (N ∷ []) w.known (known, tt);
-    homes = AllByRecursion-append (TellsHomes T.home) Ns (N ∷ []) w.homes (homes, tt);
+    made = AllByRecursion-append (IsMadeAsTold T) Ns (N ∷ []) w.made (made, tt);
     first = w.first;
   }
 
 -- a commit of data brings in no schema
 pub nothing_known : (K : Rev → List ℕ → Type 0) (N : Intent) → N.schema ≡ None → IsKnownBy K N
 nothing_known K N none = subst (λ o. IfSome o (K N.rev)) (sym none) tt
+
+-- so it is made as it is told where its homes are
+pub made_as_told : (T : Told) (N : Intent) → TellsHomes T.home N → N.schema ≡ None → IsMadeAsTold T N
+made_as_told T N homes none = record { homes = homes; room = subst (λ o. IfSome o (λ _. length (T.chain N.under) < 64)) (sym none) tt }
 
 -- ## Intents
 
@@ -86,21 +91,26 @@ turn_intents (N ∷ Ns) D s f = (
 
 -- ## More is told
 
--- what is told anew of a revision leaves lists that don't have it, and what is edited after such a list, and the homes of nodes
--- of other revisions
+-- what is told anew of a revision leaves lists that don't have it, and what is edited after such a list; the homes of nodes of
+-- other revisions, and the lines of other schemas
 pub record IsToldAnew (O : Document) (T U : Told) (r : Rev) : Type 0 where
   pub lines : (Ns : List Intent) → IsLine T O Ns → (Has (revisions Ns ++ opening ∷ []) r → ⊥) → IsLine U O Ns
   pub edits : (Ns : List Intent) (D : Document) (J : Intent) → IsLine T O Ns → Run O Ns D → FitInTurn D (J ∷ []) → J.under ≡ last_in_effect D → (Has (revisions Ns ++ opening ∷ []) r → ⊥) → J.rev ≢ r → AgreesInLine T D J → AgreesInLine U D J
   pub homes : (m : NodeId) → m.0.rev ≢ r → U.home m ≡ T.home m
+  pub chains : (q : Rev) → q ≢ r → U.chain q ≡ T.chain q
 
 -- the last schema in effect came before the list or in it
-last_among : (T : Told) (O : Document) (Ns : List Intent) (D : Document) → IsLine T O Ns → Run O Ns D → Has (revisions Ns ++ opening ∷ []) (last_in_effect D)
+pub last_among : (T : Told) (O : Document) (Ns : List Intent) (D : Document) → IsLine T O Ns → Run O Ns D → Has (revisions Ns ++ opening ∷ []) (last_in_effect D)
 last_among T O Ns D l run = made_among (opening ∷ []) Ns (last_in_effect D) (last_made T O Ns l D run)
 
 -- under which schema a commit was made, and the schema that it brings in
 pub commit_is_told : (O : Document) (T : Told) (N : Intent) (new : SchemaView) → IsToldAnew O T (with_commit T N new) N.rev
-commit_is_told O T N new = record { lines = λ Ns l fresh. line_told T O Ns l N fresh new; edits = edits; homes = λ m other. refl }
+commit_is_told O T N new = record { lines = λ Ns l fresh. line_told T O Ns l N fresh new; edits = edits; homes = λ m other. refl; chains = λ q other. chain q other (same_rev q N.rev) refl }
   where
+    chain : (q : Rev) → q ≢ N.rev → (b : Bool) → same_rev q N.rev ≡ b → cond b (T.chain N.under ++ N.rev ∷ []) (T.chain q) ≡ T.chain q
+    chain q other false e = refl
+    chain q other true e = absurd (other (same_rev-true q N.rev e))
+
     edits : (Ns : List Intent) (D : Document) (J : Intent) → IsLine T O Ns → Run O Ns D → FitInTurn D (J ∷ []) → J.under ≡ last_in_effect D → (Has (revisions Ns ++ opening ∷ []) N.rev → ⊥) → J.rev ≢ N.rev → AgreesInLine T D J → AgreesInLine (with_commit T N new) D J
     edits Ns D J l run fit under fresh apart a =
         (list_told T N new (J ∷ []) (revisions Ns ++ opening ∷ []) D (turn_extends l.sound l.fit run).after (made_in_run (opening ∷ []) l.fit run l.made) fit (λ h. elim h [ inl e ↦ apart e | inr q ↦ fresh q ]) unders (a, λ v is. tt)).0
@@ -111,7 +121,7 @@ commit_is_told O T N new = record { lines = λ Ns l fresh. line_told T O Ns l N 
 
 -- the homes of its new nodes
 pub homes_are_told : (O : Document) (T : Told) (N : Intent) → IsIntent N → IsToldAnew O T (with_home T N) N.rev
-homes_are_told O T N itself = record { lines = λ Ns l fresh. line_at_home T O Ns l N fresh itself; edits = edits; homes = λ m other. home m other (is_new N m) refl }
+homes_are_told O T N itself = record { lines = λ Ns l fresh. line_at_home T O Ns l N fresh itself; edits = edits; homes = λ m other. home m other (is_new N m) refl; chains = λ q other. refl }
   where
     home : (m : NodeId) → m.0.rev ≢ N.rev → (b : Bool) → is_new N m ≡ b → cond b (put_register N m) (T.home m) ≡ T.home m
     home m other false e = refl
@@ -130,6 +140,7 @@ new_is_told O T N itself =
       lines = λ Ns l fresh. two.lines Ns (one.lines Ns l fresh) fresh;
       edits = λ Ns D J l run fit under fresh apart a. two.edits Ns D J (one.lines Ns l fresh) run fit under fresh apart (one.edits Ns D J l run fit under fresh apart a);
       homes = λ m other. two.homes m other ∙ one.homes m other;
+      chains = λ q other. two.chains q other ∙ one.chains q other;
     }
 
 -- more is told of a revision, and schemas of other revisions stay known
@@ -145,10 +156,16 @@ pub goes_told : (K L : Rev → List ℕ → Type 0) (T U : Told) (O : Document) 
 goes_told K L T U O r Ns anew fresh w = record {
   line = anew.told.lines Ns w.line fresh;
   known = has-all (IsKnownBy L) Ns (λ N i. go N (apart N i) N.schema (all-has (IsKnownBy K) Ns N w.known i));
-  homes = has-all (TellsHomes U.home) Ns (λ N i m e. anew.told.homes m (λ q. apart N i (sym (new_node-rev N (intent N i) m e) ∙ q)) ∙ all-has (TellsHomes T.home) Ns N w.homes i m e);
+  made = has-all (IsMadeAsTold U) Ns (λ N i. (let m = all-has (IsMadeAsTold T) Ns N w.made i in record {
+    homes = λ n e. anew.told.homes n (λ q. apart N i (sym (new_node-rev N (intent N i) n e) ∙ q)) ∙ m.homes n e;
+    room = subst (λ rs. IfSome N.schema (λ _. length rs < 64)) (sym (anew.told.chains N.under (under N i))) m.room;
+  }));
   first = λ m e. anew.told.homes m (λ q. fresh (append_right (revisions Ns) (opening ∷ []) r (inl (sym e ∙ q)))) ∙ w.first m e;
 }
   where
+    under : (N : Intent) → Has Ns N → N.under ≢ r
+    under N i e = fresh (subst (Has (revisions Ns ++ opening ∷ [])) e (made_among (opening ∷ []) Ns N.under (unders_made (opening ∷ []) Ns w.line.earlier N i)))
+
     intent : (N : Intent) → Has Ns N → IsIntent N
     intent N i = all-has IsIntent Ns N (turn_intents Ns O w.line.sound w.line.fit) i
 

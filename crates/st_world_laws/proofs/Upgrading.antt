@@ -1,5 +1,5 @@
 -- A change of the schema is pending: what holds of the client and of all lists then.
-use Rattle.std.proofs.Common.{◌≡◌, ◌≢◌, ℕ, ◌+◌, ◌≤◌, Bool, true, false, List, [], ◌∷◌, ◌++◌, Option, Some, None, Ok, refl, sym, ap, subst, arith}
+use Rattle.std.proofs.Common.{◌≡◌, ◌≢◌, ℕ, ◌+◌, ◌<◌, ◌≤◌, ◌∙◌, Bool, true, false, length, List, [], ◌∷◌, ◌++◌, Option, Some, None, Ok, refl, sym, ap, subst, arith}
 use Rattle.std.specs.List.{AllByRecursion, slice_get, slice_set}
 use Rattle.std.specs.Option.{option_and_then, option_map_or}
 use Rattle.serde_json.specs.Written.{compact_text}
@@ -10,8 +10,9 @@ use Rattle.st_schema.specs.Schema.{SchemaView, is_sound}
 use Rattle.st_schema.specs.Wider.{wider_of}
 use Rattle.st_schema.specs.Written.{schema_data}
 use Rattle.st_marks.specs.declared.intents.Intent.{Intent}
+use Rattle.std.proofs.lemmas.List.{length-map}
 use Rattle.st_marks.specs.declared.schemas.SchemaEntry.{SchemaEntry}
-use Rattle.st_marks.specs.Document.{Document}
+use Rattle.st_marks.specs.Document.{Document, revs}
 use Rattle.st_marks.specs.Intent.{Fits, IsIntent}
 use Rattle.st_marks.proofs.Members.{has-all}
 use Rattle.st_lemmas.proofs.Lists.{AllByRecursion-append}
@@ -28,7 +29,7 @@ use Rattle.st_lists.specs.declared.lists.Branch.{Branch}
 use Rattle.st_lists.specs.declared.lists.Client.{Client}
 use Rattle.st_lists.specs.declared.lists.Entry.{Entry}
 use Rattle.st_lists.specs.declared.lists.Transaction.{Transaction}
-use Rattle.st_schema_laws.specs.Agreeing.{TellsHomes}
+use Rattle.st_schema_laws.proofs.EditsInLine.{some_last}
 use Rattle.st_schema_laws.specs.AgreeingInEffect.{ConformsInEffect, with_commit as told_with_commit}
 use Rattle.st_edits.specs.InEffect.{schema_in_effect}
 use Rattle.st_schema_laws.specs.Widening.{IsUpgrade}
@@ -36,7 +37,7 @@ use Rattle.st_schema_laws.proofs.Lines.{upgrade_goes_on}
 use Rattle.st_schema_laws.proofs.Read.{read_as_told}
 use Rattle.st_schema_laws.proofs.Texts.{schema_text}
 use Rattle.st_world_laws.specs.Worlds.{BranchesKeepSchemas, CommitsKeepSchemas, HasMain, HaveOwnSessions, IsClient, KeepToSchemas, KeepsLine}
-use Rattle.st_world_laws.specs.Worlds.{IsKnownBy}
+use Rattle.st_world_laws.specs.Worlds.{IsKnownBy, IsMadeAsTold}
 use Rattle.st_world.specs.Upgrade.{change_of_schema}
 use Rattle.st_edits.specs.InEffect.{last_in_effect}
 use Rattle.st_world.specs.World.{opening_document}
@@ -48,7 +49,7 @@ use Rattle.st_world_laws.proofs.Effect.{head_conforms, head_in_form}
 use Rattle.st_world_laws.proofs.Everyone.{all_get}
 use Rattle.st_world_laws.proofs.Going.{GoesOn}
 use Rattle.st_world_laws.proofs.Limits.{within_pending}
-use Rattle.st_world_laws.proofs.Telling.{GoesAnew, commit_is_told}
+use Rattle.st_world_laws.proofs.Telling.{GoesAnew, commit_is_told, last_among}
 
 -- ## The commit
 
@@ -104,7 +105,7 @@ module _ (h : HeaderView) (st : IsStart (opening_document h)) (log : List Entry)
       change_fits D (next_rev c) (last_in_effect D) new (λ e there same. next_is_new (subst (Has (revisions (commits_of log (main_line c)) ++ opening ∷ [])) same ((made_in_run (opening ∷ []) k.shown_fit main st.made).schemas e there)))
 
 module _ (h : HeaderView) (st : IsStart (opening_document h)) (K : Rev → List ℕ → Type 0) (log : List Entry) (cs : List Client) (sessions : HaveOwnSessions cs) (are : AllByRecursion (IsClient h log) cs) (few : names_in (commits_in log) ≤ 131072)
-    (keeps : KeepToSchemas h K log cs) (i : ℕ) (c : Client) (at : slice_get cs i ≡ Some c) (none : c.transaction ≡ None) (room : pending_limit_passed c ≡ None) (D : Document) (main : HasMain h log c D)
+    (keeps : KeepToSchemas h K log cs) (i : ℕ) (c : Client) (at : slice_get cs i ≡ Some c) (none : c.transaction ≡ None) (room : pending_limit_passed c ≡ None) (D : Document) (main : HasMain h log c D) (few_schemas : length D.schemas < 64)
     (new : SchemaView) (sound : is_sound new ≡ true) (wide : wider_of (schema_in_effect D) new ≡ Ok tt) where
   k : IsClient h log c
   k = all_get (IsClient h log) cs i c are at
@@ -143,12 +144,15 @@ module _ (h : HeaderView) (st : IsStart (opening_document h)) (K : Rev → List 
         let here : ConformsInEffect T D = head_conforms h st K log cs keeps are i c at 0 (main_line c) refl D main in
         let same : schema_in_effect D ≡ T.view (last_in_effect D) = read_as_told T D (head_in_form h st K log cs keeps are i c at 0 (main_line c) refl D main) here in
         let up : IsUpgrade (T.view N.under) new text = record { written = schema_text new sound; sound = sound; wide = subst (λ s. wider_of s new ≡ Ok tt) same wide } in
+        let chain : revs D.schemas ≡ T.chain (last_in_effect D) = here.line.last (last_in_effect D) (some_last (revs D.schemas) (head_in_form h st K log cs keeps are i c at 0 (main_line c) refl D main).in_effect.begun) in
+        let other : told.chain N.under ≡ T.chain N.under = anew.told.chains N.under (λ e. next_is_new h st log c k D main (subst (Has (revisions (commits_of log (main_line c)) ++ opening ∷ [])) e (last_among T O (commits_of log (main_line c)) D mine.line main))) in
+        let in_line : length (told.chain N.under) < 64 = subst (λ rs. length rs < 64) (chain ∙ sym other) (subst (λ n. n < 64) (sym (length-map D.schemas (λ (e : SchemaEntry). e.rev))) few_schemas) in
         let longer = own_more h st log (main_line c) N in
         let fit : FitInTurn O (commits_of log (main_line c) ++ N ∷ []) = subst (FitInTurn O) (sym longer) client_upgraded.shown_fit in
         let line : KeepsLine L told O (commits_of log (main_line c) ++ N ∷ []) = record {
           line = upgrade_goes_on T O D (commits_of log (main_line c)) N new mine.line main (next_is_new h st log c k D main) fit refl refl up;
           known = AllByRecursion-append (IsKnownBy L) (commits_of log (main_line c)) (N ∷ []) others.known (known, tt);
-          homes = AllByRecursion-append (TellsHomes told.home) (commits_of log (main_line c)) (N ∷ []) others.homes (λ m made. absurd (let e : false ≡ true = made in cc), tt);
+          made = AllByRecursion-append (IsMadeAsTold told) (commits_of log (main_line c)) (N ∷ []) others.made (record { homes = λ m made. absurd (let e : false ≡ true = made in cc); room = in_line }, tt);
           first = others.first;
         } in
         told_keeps h st K log c N.rev k few refl all_fresh L T told anew cs i (with_new_commit c N) sessions are at keeps.keep (subst (KeepsLine L told O) longer line)

@@ -149,12 +149,18 @@ pub record IsHeader (h : HeaderView) : Type 0 where
 abbrev pub TellsOpening : Told → Document → Type 0
 TellsOpening T O = (m : NodeId) → m.0.rev ≡ opening → T.home m ≡ register_in (O.place m)
 
+-- the homes that are told of a commit's new nodes are the registers into which it puts them, and where it brings in a schema,
+-- fewer than 64 are in the line of the one before
+pub record IsMadeAsTold (T : Told) (N : Intent) : Type 0 where
+  pub homes : TellsHomes T.home N
+  pub room : IfSome N.schema (λ _. length (T.chain N.under) < 64)
+
 -- some commits, one after the other from the document opened, agree with the schemas under which they were made, as it is
--- told, and each schema that they bring in is known; and of each node its maker's home is told
+-- told, and each schema that they bring in is known; and each is made as it is told
 pub record KeepsLine (K : Rev → List ℕ → Type 0) (T : Told) (O : Document) (Ns : List Intent) : Type 0 where
   pub line : IsLine T O Ns
   pub known : AllByRecursion (IsKnownBy K) Ns
-  pub homes : AllByRecursion (TellsHomes T.home) Ns
+  pub made : AllByRecursion (IsMadeAsTold T) Ns
   pub first : TellsOpening T O
 
 -- those of a line do
