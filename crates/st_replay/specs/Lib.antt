@@ -1,3 +1,4 @@
 pub mod Meant
 pub mod Numbers
+pub mod Stands
 pub mod inside
