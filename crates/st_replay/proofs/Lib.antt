@@ -8,3 +8,9 @@ mod MeantIntents
 mod NumbersSeen
 mod RoomForNames
 mod AcceptedCommits
+mod DocsKept
+mod LogsLonger
+mod MessagesJudged
+mod ChangesJudged
+mod MessagesEntered
+mod ValuesTaken
