@@ -2,8 +2,8 @@ use Rattle.std.proofs.Common.{sym, subst}
 use Rattle.st_marks.specs.Document.{IsSoundInForm}
 use Rattle.st_replay.proofs.authors.Authors.go_to.Goals as goal
 
-pub take_author-author-requires : goal.take_author-author-requires
-take_author-author-requires c = subst IsSoundInForm (sym c.requires.can.are.opened) c.requires.can.sound
+pub take_author-requires : goal.take_author-requires
+take_author-requires c = subst IsSoundInForm (sym c.requires.can.are.opened) c.requires.can.sound
 
 pub go_to-requires-clause-fit : goal.go_to-requires-clause-fit
 go_to-requires-clause-fit c = let can = c.requires.can in record {
