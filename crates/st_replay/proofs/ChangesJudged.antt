@@ -1,9 +1,12 @@
 -- Changes that are judged by what they mean in their author's document.
-use Rattle.std.proofs.Common.{◌≡◌, ◌↔◌, ℕ, Bool, true, false, List, refl, sym, ◌∙◌, subst, inl, inr}
-use Rattle.st_edits.specs.Keeping.{HasRoomForSchema, PassesSchema}
-use Rattle.st_lemmas.proofs.Bools.{true-false}
+use Rattle.std.proofs.Common.{◌≡◌, ℕ, true, List, Option, Some, IfSome, Result, Ok, Err, IfOk, sym, subst, inr}
+use Rattle.st_ids.specs.Or.{IfRefused}
+use Rattle.st_ids.specs.declared.fault.Or.{Or}
+use Rattle.st_ids.specs.declared.fault.Or.TheVariants.{Fault, NoMemory}
 use Rattle.st_lists.specs.Log.{commits_in}
 use Rattle.st_lists.specs.declared.lists.Entry.{Entry}
+use Rattle.st_makers.specs.Makers.{KnowsMakers}
+use Rattle.st_makers.specs.declared.makers.Makers.{Makers}
 use Rattle.st_marks.specs.declared.changes.Change.{Change}
 use Rattle.st_marks.specs.declared.intents.Intent.{Intent}
 use Rattle.st_marks.specs.Document.{Document, IsSoundInForm}
@@ -40,3 +43,23 @@ module _ (O D : Document) (log : List Entry) (session reference : ℕ) (C : Chan
 
   pub fails : (c : ReplayCause) → c ≡ cause.Schema → ((C.base ≡ true → Keeps O D (commits_in log) N) → ⊥) → IsTurnedDown O log session reference C c
   fails c is not = inr (is, meant.context, λ h. not (λ base. let k = h base in back (k.keeps a, k.room a)))
+
+-- ## What is answered
+
+module _ (D : Document) (log : List Entry) (session reference : ℕ) (C : Change) (makers : Makers) (N : Intent) where
+  abbrev IsTold : Option Intent → Type 0
+  IsTold o = IfSome o (λ M. (O : Document) → Run O (author_list log session reference) D → IsMeant O log session reference C M)
+
+  pub judged : (result : Result Intent (Or ReplayCause)) (o : Option Intent) → o ≡ Some N → IsTold o → IsSoundInForm D
+      → IfOk result (λ M. M ≡ N) → IfOk result (λ _. (O : Document) (Ns : List Intent) → KnowsMakers O Ns makers → C.base ≡ true → Keeps O D Ns N)
+      → IfOk result (λ M. (O : Document) → Run O (author_list log session reference) D → KnowsMakers O (commits_in log) makers → IsJudged O log session reference C M)
+  judged (Ok M) o is told sound same kept = λ O ran knows.
+      subst (IsJudged O log session reference C) (sym same) (passes O D log session reference C N ran (subst IsTold is told O ran) sound (kept O (commits_in log) knows))
+  judged (Err e) o is told sound same kept = tt
+
+  pub turned_down : (result : Result Intent (Or ReplayCause)) (o : Option Intent) → o ≡ Some N → IsTold o
+      → IfRefused result (λ c. c ≡ cause.Schema) → IfRefused result (λ _. (O : Document) (Ns : List Intent) → KnowsMakers O Ns makers → (C.base ≡ true → Keeps O D Ns N) → ⊥)
+      → IfRefused result (λ c. (O : Document) → Run O (author_list log session reference) D → KnowsMakers O (commits_in log) makers → IsTurnedDown O log session reference C c)
+  turned_down (Ok M) o is told schema not = tt
+  turned_down (Err (Fault c)) o is told schema not = λ O ran knows. fails O D log session reference C N ran (subst IsTold is told O ran) c schema (not O (commits_in log) knows)
+  turned_down (Err NoMemory) o is told schema not = tt
