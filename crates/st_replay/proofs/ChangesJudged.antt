@@ -53,9 +53,9 @@ module _ (D : Document) (log : List Entry) (session reference : ℕ) (C : Change
   pub judged : (result : Result Intent (Or ReplayCause)) (o : Option Intent) → o ≡ Some N → IsTold o → IsSoundInForm D
       → IfOk result (λ M. M ≡ N) → IfOk result (λ _. (O : Document) (Ns : List Intent) → KnowsMakers O Ns makers → C.base ≡ true → Keeps O D Ns N)
       → IfOk result (λ M. (O : Document) → Run O (author_list log session reference) D → KnowsMakers O (commits_in log) makers → IsJudged O log session reference C M)
-  judged (Ok M) o is told sound same kept = λ O ran knows.
-      subst (IsJudged O log session reference C) (sym same) (passes O D log session reference C N ran (subst IsTold is told O ran) sound (kept O (commits_in log) knows))
-  judged (Err e) o is told sound same kept = tt
+  judged (Ok M) o is told sound alike kept = λ O ran knows.
+      subst (IsJudged O log session reference C) (sym alike) (passes O D log session reference C N ran (subst IsTold is told O ran) sound (kept O (commits_in log) knows))
+  judged (Err e) o is told sound alike kept = tt
 
   pub turned_down : (result : Result Intent (Or ReplayCause)) (o : Option Intent) → o ≡ Some N → IsTold o
       → IfRefused result (λ c. c ≡ cause.Schema) → IfRefused result (λ _. (O : Document) (Ns : List Intent) → KnowsMakers O Ns makers → (C.base ≡ true → Keeps O D Ns N) → ⊥)

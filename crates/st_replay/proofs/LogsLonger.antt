@@ -1,5 +1,5 @@
 -- A replay that goes on by an entry.
-use Rattle.std.proofs.Common.{◌≡◌, ◌≢◌, ◌≤◌, ◌<◌, ◌+◌, ◌^◌, ℕ, List, [], ◌∷◌, ◌++◌, length, length-append, take, Option, Some, None, refl, sym, ap, ◌∙◌, subst, arith, ◌⊎◌, inl, inr}
+use Rattle.std.proofs.Common.{◌≡◌, ◌≢◌, ◌≤◌, ◌<◌, ◌+◌, ◌^◌, ℕ, List, [], ◌∷◌, ◌++◌, length, length-append, take, Option, Some, None, Result, Ok, Err, IfOk, OnOk, refl, sym, ap, ◌∙◌, subst, arith, inl}
 use Rattle.std.specs.List.{find}
 use Rattle.std.proofs.lemmas.List.{append-nil, take_all}
 use Rattle.st_author_docs.specs.Authors.{LeadsTo}
@@ -103,6 +103,11 @@ module _ (O : Document) (log : List Entry) (s reference : ℕ) (ids : IdRange) (
     ran = subst (λ Ns. Run O Ns (document_of e)) (sym commits) (run_then leads.ran (run_one (document_of d) (document_of e) N v is after));
     sound = sound (fits d leads).1;
   }
+
+  pub carried_on : {E : Type 0} (r : Result Verdict E) (d e : Doc) → LeadsTo O (commits_in log) d → IfOk r (λ v. IsVerdict (document_of d) N v) → IfOk r (λ v. document_of e ≡ carried_document v (document_of d) N)
+      → OnOk r (HasShortRows (full (document_of d) N) → IsSoundInForm (document_of e)) → OnOk r (LeadsTo O (commits_in (log_with log s (Commit reference ids N))) e)
+  carried_on (Ok v) d e leads is after sound = leads_on d e v leads is after sound
+  carried_on (Err x) d e leads is after sound = tt
 
   pub knows_on : (x : Makers) → KnowsMakers O (commits_in log ++ N ∷ []) x → KnowsMakers O (commits_in (log_with log s (Commit reference ids N))) x
   knows_on x h = subst (λ Ns. KnowsMakers O Ns x) (sym commits) h
