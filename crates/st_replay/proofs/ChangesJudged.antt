@@ -16,7 +16,6 @@ use Rattle.st_valid.specs.Author.{author_list}
 use Rattle.st_valid.specs.Context.{AuthorsIntent}
 use Rattle.st_valid.specs.declared.message.ReplayCause.{ReplayCause}
 use Rattle.st_valid.specs.declared.message.ReplayCause.TheVariants as cause
-use Rattle.st_valid_laws.specs.Schema.{KeepsInContext}
 use Rattle.st_valid_laws.proofs.OneMeaning.{keeps_as_one}
 use Rattle.st_replay.specs.Meant.{IsMeant}
 use Rattle.st_replay.specs.inside.Judging.{IsJudged, IsTurnedDown, Keeps}

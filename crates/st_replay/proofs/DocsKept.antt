@@ -1,10 +1,10 @@
 -- The documents that are kept of authors: by session, as they go on, and as the log grows.
-use Rattle.std.proofs.Common.{◌≡◌, ◌≤◌, ℕ, Bool, true, false, cond, IfSome, List, [], ◌++◌, length, take, Option, Some, None, refl, sym, ◌∙◌, subst, arith}
+use Rattle.std.proofs.Common.{◌≡◌, ℕ, Bool, true, false, cond, IfSome, List, [], ◌++◌, length, take, Option, Some, None, refl, sym, ◌∙◌, subst, arith}
 use Rattle.std.specs.BTreeMap.{get}
 use Rattle.std.specs.Ordering.{is_eq, nat_cmp}
 use Rattle.std.proofs.lemmas.List.{take_all}
 use Rattle.std.proofs.lemmas.Map.Lookups.{exact_unsigned}
-use Rattle.st_author_docs.specs.Authors.{CanGoTo, IsAuthorOf, LeadsTo}
+use Rattle.st_author_docs.specs.Authors.{IsAuthorOf, LeadsTo}
 use Rattle.st_author_docs.specs.declared.author_doc.AuthorDoc.{AuthorDoc}
 use Rattle.st_author_docs.proofs.Authors.{stays_longer}
 use Rattle.st_doc.specs.Doc.{document_of}

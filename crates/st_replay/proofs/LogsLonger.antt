@@ -1,5 +1,5 @@
 -- A replay that goes on by an entry.
-use Rattle.std.proofs.Common.{◌≡◌, ◌≢◌, ◌≤◌, ◌<◌, ◌+◌, ◌^◌, ℕ, List, [], ◌∷◌, ◌++◌, length, length-append, take, Option, Some, None, Result, Ok, Err, IfOk, OnOk, refl, sym, ap, ◌∙◌, subst, arith, inl}
+use Rattle.std.proofs.Common.{◌≡◌, ◌≢◌, ◌≤◌, ◌<◌, ◌+◌, ℕ, List, [], ◌∷◌, ◌++◌, length, length-append, take, Option, Some, None, Result, Ok, Err, IfOk, OnOk, refl, sym, ap, ◌∙◌, subst, arith, inl}
 use Rattle.std.specs.List.{find}
 use Rattle.std.proofs.lemmas.List.{append-nil, take_all}
 use Rattle.st_author_docs.specs.Authors.{LeadsTo}
@@ -11,7 +11,6 @@ use Rattle.st_edits.specs.Keeping.{commit_named}
 use Rattle.st_ids.specs.Listing.{Has}
 use Rattle.st_ids.specs.Order.{same_rev}
 use Rattle.st_ids.specs.Root.{opening}
-use Rattle.st_ids.specs.declared.names.Rev.{Rev}
 use Rattle.st_ids.proofs.Orders.{same_rev-true}
 use Rattle.st_ledger.specs.Stands.{StandsFor}
 use Rattle.st_lists.specs.Log.{commits_in, commits_of_text, log_with}
@@ -36,7 +35,7 @@ use Rattle.st_marks.proofs.OneVerdict.{run_then}
 use Rattle.st_valid_laws.specs.Messages.{IsValidLog}
 use Rattle.st_valid_laws.proofs.Standing.{all_stand}
 use Rattle.st_valid_laws.proofs.ValidLogs.{few_entries, have_new_revisions}
-use Rattle.st_replay.specs.Stands.{AreAuthorsOf, MayOpen, StandsAt}
+use Rattle.st_replay.specs.Stands.{AreAuthorsOf, MayOpen}
 use Rattle.st_replay.specs.inside.Taking.{GoesOnBy, IsStanding, MayFollow, opening_of}
 use Rattle.st_replay.specs.declared.replay.Replay.{Replay}
 use Rattle.st_replay.proofs.DocsKept.{authors_stay}

@@ -1,5 +1,5 @@
 -- Messages that entered the log of a replay, and changes that were turned down.
-use Rattle.std.proofs.Common.{◌≡◌, ◌≤◌, ◌<◌, ◌^◌, ℕ, arith, length, List, Option, Some, None, Result, Ok, Err, IfOk, OnOk, refl, sym, ap, subst}
+use Rattle.std.proofs.Common.{◌≡◌, ◌≤◌, ◌<◌, ◌^◌, ℕ, arith, length, List, Some, None, Result, Ok, Err, IfOk, OnOk, refl, sym, subst}
 use Rattle.st_author_docs.specs.Authors.{LeadsTo}
 use Rattle.st_clusters.specs.declared.ids.IdRange.{IdRange}
 use Rattle.st_doc.specs.Doc.{document_of}

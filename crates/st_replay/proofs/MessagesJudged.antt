@@ -1,5 +1,5 @@
 -- Messages that passed the tests which read the log alone.
-use Rattle.std.proofs.Common.{◌≡◌, ◌≤◌, ◌<◌, ◌+◌, ◌==◌, ◌&&◌, ℕ, true, false, nat_le, nat_lt, List, [], ◌∷◌, length, Option, Some, None, refl, sym, ap, subst, arith, inl, inr}
+use Rattle.std.proofs.Common.{◌≡◌, ◌≤◌, ◌<◌, ◌+◌, ◌==◌, ℕ, true, false, nat_le, nat_lt, List, length, Option, Some, None, refl, sym, ap, subst, arith, inl, inr}
 use Rattle.std.specs.Option.{option_map_or}
 use Rattle.std.proofs.lemmas.Bool.Decides.{nat_tests}
 use Rattle.st_clusters.specs.declared.ids.IdRange.{IdRange}
@@ -13,9 +13,7 @@ use Rattle.st_marks.specs.declared.changes.Change.{Change}
 use Rattle.st_marks.specs.declared.intents.Intent.{Intent}
 use Rattle.st_marks.specs.declared.verdicts.Verdict.{Verdict}
 use Rattle.st_marks.specs.Document.{Document, IsSoundInForm}
-use Rattle.st_marks.proofs.OneVerdict.{one_run}
 use Rattle.st_log_laws.proofs.Turns.{turn_extends}
-use Rattle.st_valid.specs.Author.{author_list}
 use Rattle.st_valid.specs.Context.{HasContext, IsInContext, SaysInContext}
 use Rattle.st_valid.specs.Ids.{ids_are_next, is_next_range}
 use Rattle.st_valid.specs.References.{is_within, minimum_after, reference_said}
@@ -28,11 +26,11 @@ use Rattle.st_valid.specs.declared.message.ReplayCause.TheVariants as cause
 use Rattle.st_valid.specs.declared.message.Said.{Said}
 use Rattle.st_valid.specs.declared.message.Said.TheVariants as said
 use Rattle.st_valid_laws.specs.Messages.{IsBodyOf, IsRefusedFor, IsValid, IsValidLog, one_message_more}
-use Rattle.st_valid_laws.specs.Schema.{ChangeKeeps, KeepsInContext, KeepsToItsSchema, SaysBySchema}
-use Rattle.st_valid_laws.specs.Taking.{ComesOut, HasVerdict, IsEnteredAs}
+use Rattle.st_valid_laws.specs.Schema.{ChangeKeeps, KeepsToItsSchema, SaysBySchema}
+use Rattle.st_valid_laws.specs.Taking.{ComesOut, IsEnteredAs}
 use Rattle.st_valid_laws.proofs.RefusedByLog.{passed}
 use Rattle.st_valid_laws.proofs.Standing.{all_stand}
-use Rattle.st_replay.specs.Stands.{MayOpen, StandsAt}
+use Rattle.st_replay.specs.Stands.{MayOpen}
 use Rattle.st_replay.specs.inside.Judging.{IsJudged, IsTurnedDown}
 use Rattle.st_replay.proofs.AcceptedCommits.{may_enter}
 
@@ -53,28 +51,62 @@ module _ (O : Document) (log : List Entry) (m : Message) (none : refused_by_log 
 
   pub without_context : (IsInContext O log m → ⊥) → IsRefusedFor O log m cause.Context
   without_context fails =
-      inr (tt,
-      inr (passed O log m none cause.Sequence (λ e. cc) (λ e. cc),
-      inr (passed O log m none cause.Session (λ e. cc) (λ e. cc),
-      inr (passed O log m none cause.Window (λ e. cc) (λ e. cc),
-      inr (passed O log m none cause.RefBack (λ e. cc) (λ e. cc),
-      inr (passed O log m none cause.Ids (λ e. cc) (λ e. cc),
-      inr (passed O log m none cause.Revision (λ e. cc) (λ e. cc),
-      inr (passed O log m none cause.Limit (λ e. cc) (λ e. cc),
-      inl (refl, fails)))))))))
+      inr (
+        tt,
+        inr (
+          passed O log m none cause.Sequence (λ e. cc) (λ e. cc),
+          inr (
+            passed O log m none cause.Session (λ e. cc) (λ e. cc),
+            inr (
+              passed O log m none cause.Window (λ e. cc) (λ e. cc),
+              inr (
+                passed O log m none cause.RefBack (λ e. cc) (λ e. cc),
+                inr (
+                  passed O log m none cause.Ids (λ e. cc) (λ e. cc),
+                  inr (
+                    passed O log m none cause.Revision (λ e. cc) (λ e. cc),
+                    inr (
+                      passed O log m none cause.Limit (λ e. cc) (λ e. cc),
+                      inl (refl, fails),
+                    ),
+                  ),
+                ),
+              ),
+            ),
+          ),
+        ),
+      )
 
   pub without_schema : IsInContext O log m → (KeepsToItsSchema O log m → ⊥) → IsRefusedFor O log m cause.Schema
   without_schema context fails =
-      inr (tt,
-      inr (passed O log m none cause.Sequence (λ e. cc) (λ e. cc),
-      inr (passed O log m none cause.Session (λ e. cc) (λ e. cc),
-      inr (passed O log m none cause.Window (λ e. cc) (λ e. cc),
-      inr (passed O log m none cause.RefBack (λ e. cc) (λ e. cc),
-      inr (passed O log m none cause.Ids (λ e. cc) (λ e. cc),
-      inr (passed O log m none cause.Revision (λ e. cc) (λ e. cc),
-      inr (passed O log m none cause.Limit (λ e. cc) (λ e. cc),
-      inr (context,
-      inl (refl, fails))))))))))
+      inr (
+        tt,
+        inr (
+          passed O log m none cause.Sequence (λ e. cc) (λ e. cc),
+          inr (
+            passed O log m none cause.Session (λ e. cc) (λ e. cc),
+            inr (
+              passed O log m none cause.Window (λ e. cc) (λ e. cc),
+              inr (
+                passed O log m none cause.RefBack (λ e. cc) (λ e. cc),
+                inr (
+                  passed O log m none cause.Ids (λ e. cc) (λ e. cc),
+                  inr (
+                    passed O log m none cause.Revision (λ e. cc) (λ e. cc),
+                    inr (
+                      passed O log m none cause.Limit (λ e. cc) (λ e. cc),
+                      inr (
+                        context,
+                        inl (refl, fails),
+                      ),
+                    ),
+                  ),
+                ),
+              ),
+            ),
+          ),
+        ),
+      )
 
   pub may_say : session_may log m.session m.said ≡ true
   may_say = passed O log m none cause.Session (λ e. cc) (λ e. cc)

@@ -1,7 +1,6 @@
 -- Values that are taken as the message that they are read as.
-use Rattle.std.proofs.Common.{◌≡◌, ℕ, List, Option, Some, None, Result, Ok, Err, IfOk, refl, sym, subst}
+use Rattle.std.proofs.Common.{◌≡◌, ℕ, List, Option, Some, sym, subst}
 use Rattle.serde_json.specs.Data.{Data}
-use Rattle.st_doc.specs.Doc.{document_of}
 use Rattle.st_lists.specs.declared.lists.Entry.{Entry}
 use Rattle.st_marks.specs.Document.{Document}
 use Rattle.st_marks.specs.declared.verdicts.Verdict.{Verdict}
@@ -10,7 +9,7 @@ use Rattle.st_valid.specs.declared.message.ReplayCause.{ReplayCause}
 use Rattle.st_valid_laws.specs.Shape.{IsRead, IsValueRefusedFor}
 use Rattle.st_valid_laws.specs.Taking.{IsTaken}
 use Rattle.st_valid_laws.proofs.Readings.{refused_as_message}
-use Rattle.st_replay.specs.Stands.{MayOpen, Stands, StandsAt}
+use Rattle.st_replay.specs.Stands.{StandsAt}
 use Rattle.st_replay.specs.inside.Taking.{IsEntered, IsRefused, IsStanding, opening_of}
 use Rattle.st_replay.specs.declared.replay.Replay.{Replay}
 

@@ -71,11 +71,7 @@ pub(crate) fn number_join(
 }
 
 /// Puts an entry at the end of a log.
-pub(crate) fn push_entry(
-    log: &mut List<Entry>,
-    session: u32,
-    body: Body,
-) -> Result<(), AllocError>
+pub(crate) fn push_entry(log: &mut List<Entry>, session: u32, body: Body) -> Result<(), AllocError>
     requires { length log.old + 1 < 2 ^ 32 }
     ensures { OnOk result (log.new ≡ log_with log.old session body) }
 {

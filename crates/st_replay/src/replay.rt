@@ -94,7 +94,13 @@ impl Replay {
         requires may { session_may self.old.log session (said.Join uuid) ≡ true }
         ensures { OnOk result (GoesOnBy self.old session (Join uuid) self.new) }
     {
-        number_join(self.alloc, &mut self.ledger, self.log.as_slice(), session, uuid)?;
+        number_join(
+            self.alloc,
+            &mut self.ledger,
+            self.log.as_slice(),
+            session,
+            uuid,
+        )?;
         push_entry(&mut self.log, session, Body::Join { uuid })?;
         let at = self.log.len() as u32;
         self.authors.join(self.alloc, session, &self.doc, at)

@@ -1,6 +1,6 @@
-use Rattle.std.proofs.Common.{refl, arith}
+use Rattle.std.proofs.Common.{arith}
 use Rattle.st_doc.specs.Doc.{document_of}
-use Rattle.st_replay.proofs.DocsKept.{leads_alike, opens}
+use Rattle.st_replay.proofs.DocsKept.{opens}
 use Rattle.st_replay.proofs.authors.new_author.Goals as goal
 
 pub returns-clause-is : goal.returns-clause-is

@@ -1,4 +1,4 @@
-use Rattle.std.proofs.Common.{sym, arith}
+use Rattle.std.proofs.Common.{arith}
 use Rattle.std.proofs.lemmas.Result.{IfOk-weaker}
 use Rattle.st_replay.proofs.authors.or_new_author.Goals as goal
 

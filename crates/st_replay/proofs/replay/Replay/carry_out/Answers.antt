@@ -1,4 +1,3 @@
-use Rattle.std.proofs.Common.{◌∷◌, []}
 use Rattle.st_lists.specs.Log.{commits_in}
 use Rattle.st_replay.specs.inside.Taking.{opening_of}
 use Rattle.st_replay.proofs.LogsLonger.{carried_on, fits, knows_on, named_by_none, not_opening}

@@ -1,4 +1,4 @@
-use Rattle.std.proofs.Common.{◌≡◌, ◌+◌, ◌<◌, ◌≤◌, ◌∷◌, [], length, refl, sym, ap, ◌∙◌, subst, arith}
+use Rattle.std.proofs.Common.{◌≡◌, ◌∷◌, [], length, refl, sym, ap, ◌∙◌, subst, arith}
 use Rattle.st_author_docs.specs.Authors.{LeadsTo}
 use Rattle.st_ledger.specs.Stands.{StandsFor}
 use Rattle.st_lists.specs.Log.{commits_in, log_with}
