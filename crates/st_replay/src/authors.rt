@@ -96,9 +96,9 @@ impl Authors {
         Ok(())
     }
 
-    /// Goes on with a session to a reference, behind the whole log. Where the reference is that of its last commit, no document
-    /// is copied; where it is one before that, its document is made anew from the opening. After an `Err` nothing is promised of
-    /// the value.
+    /// Goes on with a session to a reference, behind the whole log. For each reference a document is copied once at most, where the
+    /// session has commits after it; for one before that to which the session went last, it is made anew from the opening. After
+    /// an `Err` nothing is promised of the value.
     pub(crate) fn go_to(
         &mut self,
         alloc: Global,

@@ -40,8 +40,9 @@ use st_valid::{Message, ReplayCause, Said};
 use std::alloc::{AllocError, Global};
 
 /// A log of messages, and what is kept of it so that the next one can be judged: numbers and names, the document of all commits,
-/// those of the authors, who made which node, and the schemas that were read. Nothing that a message costs grows with the log,
-/// but for what is looked up in ordered maps, the entries that came since its author's last one, and the search for a schema.
+/// those of the authors, who made which node, and the schemas that were read. A message costs what its own names and rows ask for,
+/// the entries that came since its session's last commit, the search of the log for the commit of its schema, and look-ups in
+/// ordered maps; a join, and a commit whose reference rises, a copy of a document besides.
 #[derive(Drop)]
 pub struct Replay {
     pub(crate) alloc: Global,
