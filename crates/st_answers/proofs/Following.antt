@@ -1,11 +1,11 @@
 -- The answers to lines that follow others which were answered.
 use Rattle.std.proofs.Common.{◌≡◌, ℕ, ◌+◌, Bool, true, false, List, [], ◌∷◌, ◌++◌, length, refl, sym, subst, append_assoc, inl, inr}
-use Rattle.st_json.specs.declared.fault.BadCause.{BadCause}
 use Rattle.st_pieces.specs.Lines.{Line, cut, is_long}
 use Rattle.st_pieces.specs.Told.{Answered, more, nothing}
 use Rattle.st_answers.specs.Answers.{AnswersFrom, AnswersLine}
-use Rattle.st_answers.specs.Endings.{Output, bad_line, before, cut_short, long_output}
-use Rattle.st_answers.specs.Meaning.{Meaning}
+use Rattle.st_answers.specs.Endings.{Output, before, cut_short, end_line, long_output}
+use Rattle.st_answers.specs.Meaning.{EndsBy, Meaning}
+use Rattle.st_answers.specs.declared.cause.EndCause.{EndCause}
 
 module _ (m : Meaning) where
   -- ## One line
@@ -17,9 +17,9 @@ module _ (m : Meaning) where
       inr (subst (λ (b : Bool). AnswersLine m b s n l.bytes (λ u. AnswersFrom m u (n + 1) (start + length l.bytes + l.feed) ls) (before told out)) (sym short)
       (inl (record { told = told; state = v; rest = out; takes = takes; follows = follows; whole = refl })))
 
-  pub bad : (s : m.State) (n start : ℕ) (l : Line) (c : BadCause) (ls : List Line) → is_long n start l ≡ false → m.IsBad s l.bytes c → AnswersFrom m s n start (l ∷ ls) (bad_line n c)
-  bad s n start l c ls short is =
-      inr (subst (λ (b : Bool). AnswersLine m b s n l.bytes (λ u. AnswersFrom m u (n + 1) (start + length l.bytes + l.feed) ls) (bad_line n c)) (sym short)
+  pub last : (s : m.State) (n start : ℕ) (l : Line) (c : EndCause) (ls : List Line) → is_long n start l ≡ false → EndsBy m s l.bytes c → AnswersFrom m s n start (l ∷ ls) (end_line n c)
+  last s n start l c ls short is =
+      inr (subst (λ (b : Bool). AnswersLine m b s n l.bytes (λ u. AnswersFrom m u (n + 1) (start + length l.bytes + l.feed) ls) (end_line n c)) (sym short)
       (inr (record { cause = c; is = is; whole = refl })))
 
   pub long : (s : m.State) (n start : ℕ) (l : Line) (ls : List Line) → is_long n start l ≡ true → AnswersFrom m s n start (l ∷ ls) (long_output n)

@@ -157,6 +157,7 @@ algebra = record {
   first = tt;
   Takes = λ s n line text t. IsAsked line text;
   IsBad = λ s line c. IsRequest line (Err c);
+  IsRefused = λ s line c. ⊥;
   Finishes = λ s last. last ≡ [];
   Lacks = λ s c. ⊥;
 }

@@ -4,11 +4,13 @@ use Rattle.st_json.specs.declared.fault.BadCause.{BadCause}
 use Rattle.st_pieces.specs.Lines.{Line, cut, is_long}
 use Rattle.st_answers.specs.Algebra.{algebra}
 use Rattle.st_answers.specs.Compat.{compat}
-use Rattle.st_answers.specs.Endings.{Output, bad_line, before, cut_short, ended, long_output}
-use Rattle.st_answers.specs.Meaning.{Meaning}
+use Rattle.st_answers.specs.Endings.{Output, bad_line, before, cut_short, end_line, ended, long_output}
+use Rattle.st_answers.specs.Meaning.{EndsBy, Meaning}
+use Rattle.st_answers.specs.Replay.{replay}
 use Rattle.st_answers.specs.Trace.{trace}
+use Rattle.st_answers.specs.declared.cause.EndCause.{EndCause}
 use Rattle.st_answers.specs.declared.command.Command.{Command}
-use Rattle.st_answers.specs.declared.command.Command.TheVariants.{Trace, Compat, Algebra}
+use Rattle.st_answers.specs.declared.command.Command.TheVariants.{Trace, Replay, Compat, Algebra}
 
 -- the whole, or nothing of it where something failed before
 abbrev pub OrCutShort : (Output → Type 0) → Output → Type 0
@@ -23,16 +25,16 @@ pub record AnswersTaken (m : Meaning) (s : m.State) (n : ℕ) (line : List ℕ) 
   pub follows : Rest state rest
   pub whole : out ≡ before told rest
 
--- a line is bad, and nothing follows it
-pub record AnswersBad (m : Meaning) (s : m.State) (n : ℕ) (line : List ℕ) (out : Output) : Type 0 where
-  pub cause : BadCause
-  pub is : m.IsBad s line cause
-  pub whole : out ≡ bad_line n cause
+-- a line is bad or refused, and nothing follows it
+pub record AnswersLast (m : Meaning) (s : m.State) (n : ℕ) (line : List ℕ) (out : Output) : Type 0 where
+  pub cause : EndCause
+  pub is : EndsBy m s line cause
+  pub whole : out ≡ end_line n cause
 
 -- a line ends the answers where it is too long, whatever it says
 abbrev pub AnswersLine : (m : Meaning) → Bool → m.State → ℕ → List ℕ → (m.State → Output → Type 0) → Output → Type 0
 AnswersLine m true s n line Rest out = out ≡ long_output n
-AnswersLine m false s n line Rest out = AnswersTaken m s n line Rest out ⊎ AnswersBad m s n line out
+AnswersLine m false s n line Rest out = AnswersTaken m s n line Rest out ⊎ AnswersLast m s n line out
 
 -- the end of the input
 abbrev pub AnswersEnd : (m : Meaning) → m.State → ℕ → Output → Type 0
@@ -50,6 +52,7 @@ AnswersFrom m s n start (l ∷ ls) out =
 
 abbrev pub meaning_of : Command → Meaning
 meaning_of Trace = trace
+meaning_of Replay = replay
 meaning_of Compat = compat
 meaning_of Algebra = algebra
 

@@ -52,4 +52,4 @@ LacksInCompat (stored s) c = c ≡ Shape
 LacksInCompat related c = ⊥
 
 abbrev pub compat : Meaning
-compat = record { State = CompatState; first = unread; Takes = TakesCompat; IsBad = IsBadInCompat; Finishes = FinishesCompat; Lacks = LacksInCompat }
+compat = record { State = CompatState; first = unread; Takes = TakesCompat; IsBad = IsBadInCompat; IsRefused = λ s line c. ⊥; Finishes = FinishesCompat; Lacks = LacksInCompat }

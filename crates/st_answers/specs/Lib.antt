@@ -3,6 +3,7 @@ pub mod Answers
 pub mod Compat
 pub mod Endings
 pub mod Meaning
+pub mod Replay
 pub mod Run
 pub mod Status
 pub mod Trace

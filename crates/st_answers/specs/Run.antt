@@ -11,9 +11,9 @@ use Rattle.st_answers.specs.Endings.{Output, usage_output}
 use Rattle.st_answers.specs.Meaning.{EndsAt, FailsAt, FinishesAt, Meaning}
 use Rattle.st_answers.specs.Work.{IsWorkOutput}
 use Rattle.st_answers.specs.declared.command.Command.{Command}
-use Rattle.st_answers.specs.declared.command.Command.TheVariants.{Trace, Compat, Algebra}
+use Rattle.st_answers.specs.declared.command.Command.TheVariants.{Trace, Replay, Compat, Algebra}
 use Rattle.st_answers.specs.declared.outcome.Outcome.{Outcome}
-use Rattle.st_answers.specs.declared.outcome.Outcome.TheVariants.{Done, Usage, BadLine, TooLong, ReadFault, WriteFault, NoMemory}
+use Rattle.st_answers.specs.declared.outcome.Outcome.TheVariants.{Done, Usage, BadLine, Refused, TooLong, ReadFault, WriteFault, NoMemory}
 
 -- what was written is all that is told, and that ends so
 abbrev pub WritesAll : Option (List ℕ) → Option (List ℕ) → (Output → Type 0) → Outcome → Type 0
@@ -31,16 +31,17 @@ IsOutput old new Wanted ReadFault = ⊥
 IsOutput old new Wanted Done = WritesAll old new Wanted Done
 IsOutput old new Wanted Usage = WritesAll old new Wanted Usage
 IsOutput old new Wanted (BadLine n c) = WritesAll old new Wanted (BadLine n c)
+IsOutput old new Wanted (Refused n c) = WritesAll old new Wanted (Refused n c)
 IsOutput old new Wanted (TooLong n) = WritesAll old new Wanted (TooLong n)
 
 -- the source failed: all lines that end within the bytes read are answered and written, and nothing else is
 abbrev pub IsStopped : (m : Meaning) → Option (List ℕ) → Option (List ℕ) → Option (List ℕ) → Option (List ℕ) → Type 0
 IsStopped m left rest old new = IsCutOff m.Takes (EndsAt m) (FinishesAt m) (FailsAt m) m.first left old rest new
 
--- the commands over the lines of an input that the program has, among those that words can be
+-- the commands over the lines of an input, among those that words can be
 abbrev pub command_asked : Request → Option Command
 command_asked request.Trace = Some Trace
-command_asked request.Replay = None
+command_asked request.Replay = Some Replay
 command_asked request.Algebra = Some Algebra
 command_asked request.Compat = Some Compat
 command_asked (request.Work seed steps) = None
@@ -55,6 +56,7 @@ IsCarriedOut c left rest old new Usage = ⊥
 IsCarriedOut c left rest old new ReadFault = IsStopped (meaning_of c) left rest old new
 IsCarriedOut c left rest old new Done = IfSome left (λ bytes. (rest ≡ Some []) × IsOutput old new (Answers c bytes) Done)
 IsCarriedOut c left rest old new (BadLine n cause) = IfSome left (λ bytes. IsOutput old new (Answers c bytes) (BadLine n cause))
+IsCarriedOut c left rest old new (Refused n cause) = IfSome left (λ bytes. IsOutput old new (Answers c bytes) (Refused n cause))
 IsCarriedOut c left rest old new (TooLong n) = IfSome left (λ bytes. IsOutput old new (Answers c bytes) (TooLong n))
 IsCarriedOut c left rest old new WriteFault = IfSome left (λ bytes. IsOutput old new (Answers c bytes) WriteFault)
 IsCarriedOut c left rest old new NoMemory = IfSome left (λ bytes. IsOutput old new (Answers c bytes) NoMemory)
@@ -70,7 +72,7 @@ IsLoadTold seed steps left rest old new outcome = (rest ≡ left) × IsOutput ol
 abbrev pub IsAnsweredTo : Option Request → Option (List ℕ) → Option (List ℕ) → Option (List ℕ) → Option (List ℕ) → Outcome → Type 0
 IsAnsweredTo None left rest old new outcome = IsAnsweredAs None left rest old new outcome
 IsAnsweredTo (Some request.Trace) left rest old new outcome = IsAnsweredAs (Some Trace) left rest old new outcome
-IsAnsweredTo (Some request.Replay) left rest old new outcome = IsAnsweredAs None left rest old new outcome
+IsAnsweredTo (Some request.Replay) left rest old new outcome = IsAnsweredAs (Some Replay) left rest old new outcome
 IsAnsweredTo (Some request.Algebra) left rest old new outcome = IsAnsweredAs (Some Algebra) left rest old new outcome
 IsAnsweredTo (Some request.Compat) left rest old new outcome = IsAnsweredAs (Some Compat) left rest old new outcome
 IsAnsweredTo (Some (request.Work seed steps)) left rest old new outcome = IsLoadTold seed steps left rest old new outcome
@@ -85,6 +87,7 @@ abbrev pub NothingFailed : Outcome → Type 0
 NothingFailed Done = Unit {0}
 NothingFailed Usage = Unit {0}
 NothingFailed (BadLine n c) = Unit {0}
+NothingFailed (Refused n c) = Unit {0}
 NothingFailed (TooLong n) = Unit {0}
 NothingFailed ReadFault = ⊥
 NothingFailed WriteFault = ⊥

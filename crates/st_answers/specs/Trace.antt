@@ -102,4 +102,4 @@ LacksInTrace unopened c = c ≡ Header
 LacksInTrace (opened h w) c = ⊥
 
 abbrev pub trace : Meaning
-trace = record { State = TraceState; first = unopened; Takes = TakesTrace; IsBad = IsBadInTrace; Finishes = FinishesTrace; Lacks = LacksInTrace }
+trace = record { State = TraceState; first = unopened; Takes = TakesTrace; IsBad = IsBadInTrace; IsRefused = λ s line c. ⊥; Finishes = FinishesTrace; Lacks = LacksInTrace }

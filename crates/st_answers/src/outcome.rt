@@ -2,6 +2,7 @@
 ghost use Rattle.std.specs.Prelude.{◌≡◌};
 
 use st_json::BadCause;
+use st_valid::ReplayCause;
 
 /// How a run ends.
 #[derive(Clone, Copy, Debug, PartialEq, Eq)]
@@ -12,6 +13,8 @@ pub enum Outcome {
     Usage,
     /// The first line that can't be answered, counted from 1.
     BadLine { line: u32, cause: BadCause },
+    /// The first message that isn't valid, by the number of its line, counted from 1, and the first test that it fails.
+    Refused { line: u32, cause: ReplayCause },
     /// The first line that is too long, or one too many, counted from 1.
     TooLong { line: u32 },
     /// The source failed.
@@ -33,6 +36,7 @@ impl Outcome {
             Outcome::Done => 0,
             Outcome::Usage => 2,
             Outcome::BadLine { .. } => 3,
+            Outcome::Refused { .. } => 4,
             Outcome::TooLong { .. } => 5,
             Outcome::ReadFault => 6,
             Outcome::WriteFault => 7,

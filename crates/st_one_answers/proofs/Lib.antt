@@ -4,6 +4,8 @@ mod EachWorldGoesOn
 mod BothAlike
 mod OneMessage
 mod OneListOfAnswers
+mod OneTaking
+mod OneReplay
 mod OneRequest
 mod OneRun
 mod BasesTold

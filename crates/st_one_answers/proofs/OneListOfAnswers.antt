@@ -33,12 +33,16 @@ use Rattle.st_requests.specs.declared.request.Request.{Request}
 use Rattle.st_answers.specs.Algebra.{IsAsked, algebra}
 use Rattle.st_answers.specs.Answers.{Answers, AnswersEnd, AnswersFrom, AnswersLine, OrCutShort}
 use Rattle.st_answers.specs.Compat.{CompatState, IsBadInCompat, TakesCompat, compat, related, stored, unread}
-use Rattle.st_answers.specs.Endings.{Output, bad_line, before, cut_short, ended, long_output}
-use Rattle.st_answers.specs.Meaning.{Meaning}
+use Rattle.st_answers.specs.Endings.{Output, bad_line, before, cut_short, end_line, ended, long_output}
+use Rattle.st_answers.specs.Meaning.{EndsBy, Meaning}
+use Rattle.st_answers.specs.Replay.{ReplayState, replay}
+use Rattle.st_answers.specs.Replay as replayed
 use Rattle.st_answers.specs.Run.{NothingFailed}
 use Rattle.st_answers.specs.Trace.{IsBadInTrace, IsEntryTold, IsNoEntry, IsStep, IsTextLine, TakesTrace, TraceState, entry_asked, message_line, opened, trace, unopened}
+use Rattle.st_answers.specs.declared.cause.EndCause.{EndCause}
+use Rattle.st_answers.specs.declared.cause.EndCause.TheVariants as why
 use Rattle.st_answers.specs.declared.command.Command.{Command}
-use Rattle.st_answers.specs.declared.command.Command.TheVariants.{Trace, Compat, Algebra}
+use Rattle.st_answers.specs.declared.command.Command.TheVariants.{Trace, Replay, Compat, Algebra}
 use Rattle.st_answers.specs.declared.outcome.Outcome.TheVariants.{NoMemory}
 use Rattle.st_one_laws.specs.AlikeWorlds.{AlikeEntry, AreAlike, OneByOne}
 use Rattle.st_one_laws.proofs.OneByOne.{as_long}
@@ -48,7 +52,9 @@ use Rattle.st_one_answers.proofs.EachWorldGoesOn.{StepsGoOn, fits_rules, steps_g
 use Rattle.st_one_answers.proofs.BothAlike.{logs_alike}
 use Rattle.st_one_answers.proofs.OneMessage.{message_one}
 use Rattle.st_one_answers.proofs.OneRelation.{line_one, relation_one}
+use Rattle.st_one_answers.proofs.OneReplay.{AreOneLog, replay_bad_apart, replay_bad_or_refused, replay_bad_other, replay_ends_apart, replay_ends_one, replay_ends_other, replay_lacks_one, replay_one_bad, replay_one_refusal, replay_refused_apart, replay_refused_or_bad, replay_refused_other, replay_takes_one}
 use Rattle.st_one_answers.proofs.OneRequest.{line_one as request_line_one}
+use Rattle.st_valid.specs.declared.message.ReplayCause.{ReplayCause}
 
 steps_one : (h : HeaderView) (w x u : WorldState) (steps : List StepView) (xs ys : List Answer) → StepsGoOn h u steps → AreAlike w u → AreAlike x u → AreAnswers h w steps xs → AreAnswers h x steps ys → xs ≡ ys
 steps_one h w x u [] xs ys on p q a b = a ∙ sym b
@@ -89,16 +95,34 @@ fine_rest line a b e n = subst (λ (o : Output). NothingFailed o.outcome) e n
 
 -- ## Any command
 
--- from two states that are alike a line is answered alike or is bad alike, and the input ends alike
+-- from two states that are alike a line is answered alike or ends the run alike, and the input ends alike
 record IsOne (m : Meaning) (Alike : m.State → m.State → Type 0) : Type 0 where
   takes : (s t u v : m.State) (n : ℕ) (line a b : List ℕ) → Alike s t → m.Takes s n line a u → m.Takes t n line b v → (a ≡ b) × Alike u v
-  apart : (s t u : m.State) (n : ℕ) (line a : List ℕ) (c : BadCause) → Alike s t → m.Takes s n line a u → m.IsBad t line c → ⊥
-  other : (s t v : m.State) (n : ℕ) (line b : List ℕ) (c : BadCause) → Alike s t → m.IsBad s line c → m.Takes t n line b v → ⊥
-  bad : (s t : m.State) (line : List ℕ) (c e : BadCause) → Alike s t → m.IsBad s line c → m.IsBad t line e → c ≡ e
+  apart : (s t u : m.State) (n : ℕ) (line a : List ℕ) (c : EndCause) → Alike s t → m.Takes s n line a u → EndsBy m t line c → ⊥
+  other : (s t v : m.State) (n : ℕ) (line b : List ℕ) (c : EndCause) → Alike s t → EndsBy m s line c → m.Takes t n line b v → ⊥
+  last : (s t : m.State) (line : List ℕ) (c e : EndCause) → Alike s t → EndsBy m s line c → EndsBy m t line e → c ≡ e
   ends : (s t : m.State) (a b : List ℕ) → Alike s t → m.Finishes s a → m.Finishes t b → a ≡ b
   lacks : (s t : m.State) (c e : BadCause) → Alike s t → m.Lacks s c → m.Lacks t e → c ≡ e
   ends_apart : (s t : m.State) (a : List ℕ) (c : BadCause) → Alike s t → m.Finishes s a → m.Lacks t c → ⊥
   ends_other : (s t : m.State) (b : List ℕ) (c : BadCause) → Alike s t → m.Lacks s c → m.Finishes t b → ⊥
+
+-- where no message is refused, what is told of bad lines tells of all that end a run
+module _ (m : Meaning) (Alike : m.State → m.State → Type 0) (none : (s : m.State) (line : List ℕ) (c : ReplayCause) → m.IsRefused s line c → ⊥) where
+  apart_alone : ((s t u : m.State) (n : ℕ) (line a : List ℕ) (c : BadCause) → Alike s t → m.Takes s n line a u → m.IsBad t line c → ⊥)
+      → (s t u : m.State) (n : ℕ) (line a : List ℕ) (c : EndCause) → Alike s t → m.Takes s n line a u → EndsBy m t line c → ⊥
+  apart_alone apart s t u n line a (why.Bad c) k y z = apart s t u n line a c k y z
+  apart_alone apart s t u n line a (why.Refused c) k y z = none t line c z
+
+  other_alone : ((s t v : m.State) (n : ℕ) (line b : List ℕ) (c : BadCause) → Alike s t → m.IsBad s line c → m.Takes t n line b v → ⊥)
+      → (s t v : m.State) (n : ℕ) (line b : List ℕ) (c : EndCause) → Alike s t → EndsBy m s line c → m.Takes t n line b v → ⊥
+  other_alone other s t v n line b (why.Bad c) k y z = other s t v n line b c k y z
+  other_alone other s t v n line b (why.Refused c) k y z = none s line c y
+
+  last_alone : ((s t : m.State) (line : List ℕ) (c e : BadCause) → Alike s t → m.IsBad s line c → m.IsBad t line e → c ≡ e)
+      → (s t : m.State) (line : List ℕ) (c e : EndCause) → Alike s t → EndsBy m s line c → EndsBy m t line e → c ≡ e
+  last_alone one s t line (why.Bad c) (why.Bad e) k y z = ap why.Bad (one s t line c e k y z)
+  last_alone one s t line (why.Bad c) (why.Refused e) k y z = absurd (none t line e z)
+  last_alone one s t line (why.Refused c) e k y z = absurd (none s line c y)
 
 module _ (m : Meaning) (Alike : m.State → m.State → Type 0) (one : IsOne m Alike) where
   end_one : (s t : m.State) (n : ℕ) (a b : Output) → Alike s t → AnswersEnd m s n a → AnswersEnd m t n b → IsFront a b
@@ -118,7 +142,7 @@ module _ (m : Meaning) (Alike : m.State → m.State → Type 0) (one : IsOne m A
   line_answers_one s t n line false Rest a b k later fine (inl y) (inr z) = absurd (one.apart s t y.state n line y.told z.cause k y.takes z.is)
   line_answers_one s t n line false Rest a b k later fine (inr y) (inl z) = absurd (one.other s t z.state n line z.told y.cause k y.is z.takes)
   line_answers_one s t n line false Rest a b k later fine (inr y) (inr z) =
-      front_same a b (bad_line n z.cause) (y.whole ∙ ap (bad_line n) (one.bad s t line y.cause z.cause k y.is z.is)) z.whole
+      front_same a b (end_line n z.cause) (y.whole ∙ ap (end_line n) (one.last s t line y.cause z.cause k y.is z.is)) z.whole
 
   from_one : (ls : List Line) (s t : m.State) (n start : ℕ) (a b : Output) → Alike s t → AnswersFrom m s n start ls a → AnswersFrom m t n start ls b → NothingFailed b.outcome → IsFront a b
   from_one [] s t n start a b k y z fine = or_cut (AnswersEnd m s n) (AnswersEnd m t n) a b fine (end_one s t n a b k) y z
@@ -253,7 +277,10 @@ trace_ends_other unopened unopened b c k y z = z
 trace_ends_other unopened (opened g x) b c k y z = k
 
 trace_one : IsOne trace AreOne
-trace_one = record { takes = trace_takes_one; apart = trace_apart; other = trace_other; bad = trace_bad; ends = trace_ends; lacks = trace_lacks; ends_apart = trace_ends_apart; ends_other = trace_ends_other }
+trace_one = record { takes = trace_takes_one; apart = apart_alone trace AreOne never trace_apart; other = other_alone trace AreOne never trace_other; last = last_alone trace AreOne never trace_bad; ends = trace_ends; lacks = trace_lacks; ends_apart = trace_ends_apart; ends_other = trace_ends_other }
+  where
+    never : (s : TraceState) (line : List ℕ) (c : ReplayCause) → trace.IsRefused s line c → ⊥
+    never s line c h = h
 
 -- ## Two schemas
 
@@ -305,14 +332,45 @@ compat_ends_apart related a c y z = z
 compat_one : IsOne compat AreSame
 compat_one = record {
   takes = λ s t u v n line a b e y z. compat_takes_here t u v n line a b (subst (λ (k : CompatState). TakesCompat k n line a u) e y) z;
-  apart = λ s t u n line a c e y z. compat_apart_here t u n line a c (subst (λ (k : CompatState). TakesCompat k n line a u) e y) z;
-  other = λ s t v n line b c e y z. compat_apart_here t v n line b c z (subst (λ (k : CompatState). IsBadInCompat k line c) e y);
-  bad = λ s t line c d e y z. compat_bad_here t line c d (subst (λ (k : CompatState). IsBadInCompat k line c) e y) z;
+  apart = apart_alone compat AreSame never (λ s t u n line a c e y z. compat_apart_here t u n line a c (subst (λ (k : CompatState). TakesCompat k n line a u) e y) z);
+  other = other_alone compat AreSame never (λ s t v n line b c e y z. compat_apart_here t v n line b c z (subst (λ (k : CompatState). IsBadInCompat k line c) e y));
+  last = last_alone compat AreSame never (λ s t line c d e y z. compat_bad_here t line c d (subst (λ (k : CompatState). IsBadInCompat k line c) e y) z);
   ends = λ s t a b e y z. compat_ends_here t a b (subst (λ (k : CompatState). compat.Finishes k a) e y) z;
   lacks = λ s t c d e y z. compat_lacks_here t c d (subst (λ (k : CompatState). compat.Lacks k c) e y) z;
   ends_apart = λ s t a c e y z. compat_ends_apart t a c (subst (λ (k : CompatState). compat.Finishes k a) e y) z;
   ends_other = λ s t b c e y z. compat_ends_apart t b c z (subst (λ (k : CompatState). compat.Lacks k c) e y);
 }
+  where
+    never : (s : CompatState) (line : List ℕ) (c : ReplayCause) → compat.IsRefused s line c → ⊥
+    never s line c h = h
+
+-- ## Messages
+
+replay_one : IsOne replay AreOneLog
+replay_one = record {
+  takes = replay_takes_one;
+  apart = apart;
+  other = other;
+  last = last;
+  ends = replay_ends_one;
+  lacks = replay_lacks_one;
+  ends_apart = replay_ends_apart;
+  ends_other = replay_ends_other;
+}
+  where
+    apart : (s t u : ReplayState) (n : ℕ) (line a : List ℕ) (c : EndCause) → AreOneLog s t → replay.Takes s n line a u → EndsBy replay t line c → ⊥
+    apart s t u n line a (why.Bad c) k y z = replay_bad_apart s t u n line a c k y z
+    apart s t u n line a (why.Refused c) k y z = replay_refused_apart s t u n line a c k y z
+
+    other : (s t v : ReplayState) (n : ℕ) (line b : List ℕ) (c : EndCause) → AreOneLog s t → EndsBy replay s line c → replay.Takes t n line b v → ⊥
+    other s t v n line b (why.Bad c) k y z = replay_bad_other s t v n line b c k y z
+    other s t v n line b (why.Refused c) k y z = replay_refused_other s t v n line b c k y z
+
+    last : (s t : ReplayState) (line : List ℕ) (c e : EndCause) → AreOneLog s t → EndsBy replay s line c → EndsBy replay t line e → c ≡ e
+    last s t line (why.Bad c) (why.Bad e) k y z = ap why.Bad (replay_one_bad s t line c e k y z)
+    last s t line (why.Bad c) (why.Refused e) k y z = absurd (replay_bad_or_refused s t line c e k y z)
+    last s t line (why.Refused c) (why.Bad e) k y z = absurd (replay_refused_or_bad s t line c e k y z)
+    last s t line (why.Refused c) (why.Refused e) k y z = ap why.Refused (replay_one_refusal s t line c e k y z)
 
 -- ## The algebra
 
@@ -324,9 +382,9 @@ module _ (asked : OneAnswer) where
   algebra_one : IsOne algebra (λ s t. Unit {0})
   algebra_one = record {
     takes = λ s t u v n line a b k y z. (asked line a b y z, tt);
-    apart = λ s t u n line a c k y z. both_bad line y.request c y.is z;
-    other = λ s t v n line b c k y z. both_bad line z.request c z.is y;
-    bad = λ s t line c e k y z. let q : Err c ≡ Err e = request_line_one line (Err c) (Err e) y z in cc;
+    apart = apart_alone algebra (λ s t. Unit {0}) never (λ s t u n line a c k y z. both_bad line y.request c y.is z);
+    other = other_alone algebra (λ s t. Unit {0}) never (λ s t v n line b c k y z. both_bad line z.request c z.is y);
+    last = last_alone algebra (λ s t. Unit {0}) never bad_once;
     ends = λ s t a b k y z. y ∙ sym z;
     lacks = λ s t c e k y z. absurd y;
     ends_apart = λ s t a c k y z. z;
@@ -336,10 +394,17 @@ module _ (asked : OneAnswer) where
       both_bad : (line : List ℕ) (r : Request) (c : BadCause) → IsRequest line (Ok r) → IsRequest line (Err c) → ⊥
       both_bad line r c y z = let q : Ok r ≡ Err c = request_line_one line (Ok r) (Err c) y z in cc
 
+      never : (s : Unit {0}) (line : List ℕ) (c : ReplayCause) → algebra.IsRefused s line c → ⊥
+      never s line c h = h
+
+      bad_once : (s t : Unit {0}) (line : List ℕ) (c e : BadCause) → Unit {0} → IsRequest line (Err c) → IsRequest line (Err e) → c ≡ e
+      bad_once s t line c e k y z = let q : Err c ≡ Err e = request_line_one line (Err c) (Err e) y z in cc
+
   -- ## Each input
 
   front_one : (c : Command) (bytes : List ℕ) (a b : Output) → Answers c bytes a → Answers c bytes b → NothingFailed b.outcome → IsFront a b
   front_one Trace bytes a b y z fine = from_one trace AreOne trace_one (cut bytes) unopened unopened 1 0 a b tt y z fine
+  front_one Replay bytes a b y z fine = from_one replay AreOneLog replay_one (cut bytes) replayed.unopened replayed.unopened 1 0 a b tt y z fine
   front_one Compat bytes a b y z fine = from_one compat AreSame compat_one (cut bytes) unread unread 1 0 a b refl y z fine
   front_one Algebra bytes a b y z fine = from_one algebra (λ s t. Unit {0}) algebra_one (cut bytes) tt tt 1 0 a b tt y z fine
 

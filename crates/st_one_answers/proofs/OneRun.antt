@@ -13,9 +13,9 @@ use Rattle.st_words.specs.Table.{request_in}
 use Rattle.st_words.specs.declared.request.Request.{Request}
 use Rattle.st_words.specs.declared.request.Request.TheVariants as request
 use Rattle.st_answers.specs.declared.command.Command.{Command}
-use Rattle.st_answers.specs.declared.command.Command.TheVariants.{Algebra, Compat, Trace}
+use Rattle.st_answers.specs.declared.command.Command.TheVariants.{Algebra, Compat, Replay, Trace}
 use Rattle.st_answers.specs.declared.outcome.Outcome.{Outcome}
-use Rattle.st_answers.specs.declared.outcome.Outcome.TheVariants.{Done, Usage, BadLine, TooLong, ReadFault, WriteFault, NoMemory}
+use Rattle.st_answers.specs.declared.outcome.Outcome.TheVariants.{Done, Usage, BadLine, Refused, TooLong, ReadFault, WriteFault, NoMemory}
 use Rattle.st_one_answers.proofs.OneListOfAnswers.{OneAnswer, answers_one, front_of_answers}
 use Rattle.st_one_answers.proofs.OneLoad.{work_line_one}
 
@@ -27,6 +27,7 @@ all_of : (old new : Option (List ℕ)) (Wanted : Output → Type 0) (o : Outcome
 all_of old new Wanted Done i n = i
 all_of old new Wanted Usage i n = i
 all_of old new Wanted (BadLine l c) i n = i
+all_of old new Wanted (Refused l c) i n = i
 all_of old new Wanted (TooLong l) i n = i
 all_of old new Wanted ReadFault i n = absurd n
 all_of old new Wanted WriteFault i n = absurd n
@@ -36,6 +37,7 @@ carried_all : (c : Command) (left : List ℕ) (rest old new : Option (List ℕ))
 carried_all c left rest old new Done i n = i.1
 carried_all c left rest old new Usage i n = absurd i
 carried_all c left rest old new (BadLine l d) i n = i
+carried_all c left rest old new (Refused l d) i n = i
 carried_all c left rest old new (TooLong l) i n = i
 carried_all c left rest old new ReadFault i n = absurd n
 carried_all c left rest old new WriteFault i n = absurd n
@@ -66,6 +68,7 @@ module _ (written : List ℕ) (Wanted : Output → Type 0)
   front_out after later Done p m x y = front_all after later Done p m x y
   front_out after later Usage p m x y = front_all after later Usage p m x y
   front_out after later (BadLine l c) p m x y = front_all after later (BadLine l c) p m x y
+  front_out after later (Refused l c) p m x y = front_all after later (Refused l c) p m x y
   front_out after later (TooLong l) p m x y = front_all after later (TooLong l) p m x y
   front_out after later ReadFault p m x y = absurd x
   front_out after later WriteFault p m x y = front_part after later p m x y
@@ -114,6 +117,7 @@ module _ (asked : OneAnswer) where
   front_carried c left written rest after later Done p m x y = front_out written (Answers c left) (answers_one asked c left) (front_of_answers asked c left) after later Done p m x.1 y
   front_carried c left written rest after later Usage p m x y = absurd x
   front_carried c left written rest after later (BadLine l d) p m x y = front_out written (Answers c left) (answers_one asked c left) (front_of_answers asked c left) after later (BadLine l d) p m x y
+  front_carried c left written rest after later (Refused l d) p m x y = front_out written (Answers c left) (answers_one asked c left) (front_of_answers asked c left) after later (Refused l d) p m x y
   front_carried c left written rest after later (TooLong l) p m x y = front_out written (Answers c left) (answers_one asked c left) (front_of_answers asked c left) after later (TooLong l) p m x y
   front_carried c left written rest after later ReadFault p m x y = stopped_front c left written rest after later p m x y
   front_carried c left written rest after later WriteFault p m x y = front_out written (Answers c left) (answers_one asked c left) (front_of_answers asked c left) after later WriteFault p m x y
@@ -128,7 +132,7 @@ module _ (asked : OneAnswer) where
       → NothingFailed o → NothingFailed p → (o ≡ p) × (after ≡ later)
   whole_of None = whole_by None
   whole_of (Some request.Trace) = whole_by (Some Trace)
-  whole_of (Some request.Replay) = whole_by None
+  whole_of (Some request.Replay) = whole_by (Some Replay)
   whole_of (Some request.Algebra) = whole_by (Some Algebra)
   whole_of (Some request.Compat) = whole_by (Some Compat)
   whole_of (Some (request.Work seed steps)) = λ left written rest more after later o p x y n m.
@@ -139,7 +143,7 @@ module _ (asked : OneAnswer) where
       → NothingFailed p → Front after later
   front_of None = front_by None
   front_of (Some request.Trace) = front_by (Some Trace)
-  front_of (Some request.Replay) = front_by None
+  front_of (Some request.Replay) = front_by (Some Replay)
   front_of (Some request.Algebra) = front_by (Some Algebra)
   front_of (Some request.Compat) = front_by (Some Compat)
   front_of (Some (request.Work seed steps)) = λ left written rest more after later o p x y m.

@@ -22,6 +22,7 @@ use Rattle.st_requests.specs.declared.request.Request.{Request}
 use Rattle.st_revert.specs.Reversal.{has_rev, takes_out}
 use Rattle.st_answers.specs.Algebra.{AnswersRequest, TakesOut, algebra}
 use Rattle.st_answers.specs.Meaning.{EndsAt}
+use Rattle.st_answers.specs.declared.cause.EndCause.{EndCause}
 use Rattle.st_run.specs.inside.Replies.{IsAnswerTo, IsTelling}
 
 -- ## A request
@@ -42,12 +43,12 @@ request_normal line q h = of_value (line_value line) q h
 
 module _ (q : Request) where
   -- a line is told that answers
-  pub told_to : (told : List ℕ) (r : Reply BadCause) → AnswersRequest q told → IsTelling told r → IsAnswerTo q r
+  pub told_to : (told : List ℕ) (r : Reply EndCause) → AnswersRequest q told → IsTelling told r → IsAnswerTo q r
   told_to told (Goes text) is h = subst (AnswersRequest q) (sym h) is
   told_to told (Ends text e) is h = absurd h
 
 -- a line that is a request is answered
-pub request_taken : (n : ℕ) (line : List ℕ) (q : Request) (r : Reply BadCause) → IsRequest line (Ok q) → IsAnswerTo q r → IsReply (algebra.Takes tt n line) (EndsAt algebra tt n line) (λ t. Unit {0}) r
+pub request_taken : (n : ℕ) (line : List ℕ) (q : Request) (r : Reply EndCause) → IsRequest line (Ok q) → IsAnswerTo q r → IsReply (algebra.Takes tt n line) (EndsAt algebra tt n line) (λ t. Unit {0}) r
 request_taken n line q (Goes text) is h = (tt, record { request = q; is = is; answered = h }, tt)
 request_taken n line q (Ends text e) is h = absurd h
 

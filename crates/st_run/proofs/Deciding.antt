@@ -1,4 +1,4 @@
--- Each input has its answers under a command other than `algebra`: some output is told of it in which nothing failed.
+-- Each input has its answers under `trace` and `compat`: some output is told of it in which nothing failed.
 use Rattle.std.specs.List.{slice_get}
 use Rattle.std.proofs.Common.{◌≡◌, ◌≢◌, ◌≤◌, ◌<◌, ap, subst, arith, zero, suc, ◌⊎◌, ℕ, ◌+◌, Bool, true, false, List, [], ◌∷◌, ◌++◌, length, Option, Some, None, option_and_then, Result, Ok, Err, codes, refl, inl, inr}
 use Rattle.st_json.specs.declared.fault.BadCause.{BadCause}
@@ -45,16 +45,18 @@ use Rattle.st_run.specs.inside.Working.{IsShortWork}
 use Rattle.st_run.proofs.LoadsExist.{work_line_exists}
 use Rattle.st_run.proofs.Requested.{short_request}
 use Rattle.st_answers.specs.Trace.{IsEntryTold, TakesTrace, TraceState, entry_asked, message_line, no_entry_line, opened, trace, unopened}
+use Rattle.st_answers.specs.declared.cause.EndCause.TheVariants as why
 use Rattle.st_answers.specs.declared.command.Command.{Command}
-use Rattle.st_answers.specs.declared.command.Command.TheVariants.{Trace, Compat, Algebra}
+use Rattle.st_answers.specs.declared.command.Command.TheVariants.{Trace, Replay, Compat, Algebra}
 use Rattle.st_answers.specs.declared.outcome.Outcome.{Outcome}
-use Rattle.st_answers.specs.declared.outcome.Outcome.TheVariants.{Done, Usage, BadLine, TooLong, ReadFault, WriteFault, NoMemory}
+use Rattle.st_answers.specs.declared.outcome.Outcome.TheVariants.{Done, Usage, BadLine, Refused, TooLong, ReadFault, WriteFault, NoMemory}
 
 -- how the lines of an input end, where nothing fails
 abbrev IsEnd : Outcome → Type 0
 IsEnd Done = Unit {0}
 IsEnd Usage = ⊥
 IsEnd (BadLine n c) = Unit {0}
+IsEnd (Refused n c) = Unit {0}
 IsEnd (TooLong n) = Unit {0}
 IsEnd ReadFault = ⊥
 IsEnd WriteFault = ⊥
@@ -64,6 +66,7 @@ end_unfailed : (o : Outcome) → IsEnd o → NothingFailed o
 end_unfailed Done h = tt
 end_unfailed Usage h = tt
 end_unfailed (BadLine n c) h = tt
+end_unfailed (Refused n c) h = tt
 end_unfailed (TooLong n) h = tt
 end_unfailed ReadFault h = h
 end_unfailed WriteFault h = h
@@ -94,7 +97,7 @@ module _ (m : Meaning) (Holds : m.State → Type 0) (on : GoesOn m Holds) where
     where
       by : ((told : List ℕ) × (v : m.State) × m.Takes s n line told v × Holds v) ⊎ ((c : BadCause) × m.IsBad s line c) → Whole (AnswersLine m false s n line Rest)
       by (inl (told, v, takes, holds)) = let t = rest v holds in (before told t.0, inl (record { told = told; state = v; rest = t.0; takes = takes; follows = t.1; whole = refl }), t.2)
-      by (inr (c, is)) = (bad_line n c, inr (record { cause = c; is = is; whole = refl }), tt)
+      by (inr (c, is)) = (bad_line n c, inr (record { cause = why.Bad c; is = is; whole = refl }), tt)
 
   lines_have : (ls : List Line) (s : m.State) (n start : ℕ) → Holds s → Whole (AnswersFrom m s n start ls)
   lines_have [] s n start h = end_has s n h
@@ -216,13 +219,14 @@ compat_ends related holds = inl ([], refl)
 
 -- ## Each input
 
-bytes_have : (c : Command) (bytes : List ℕ) → c ≢ Algebra → Whole (Answers c bytes)
-bytes_have Trace bytes other = lines_have trace IsWorldIn (record { takes = trace_takes; ends = trace_ends }) (cut bytes) unopened 1 0 tt
-bytes_have Compat bytes other = lines_have compat IsSoundIn (record { takes = compat_takes; ends = compat_ends }) (cut bytes) unread 1 0 tt
-bytes_have Algebra bytes other = absurd (other refl)
+bytes_have : (c : Command) (bytes : List ℕ) → c ≢ Algebra → c ≢ Replay → Whole (Answers c bytes)
+bytes_have Trace bytes other another = lines_have trace IsWorldIn (record { takes = trace_takes; ends = trace_ends }) (cut bytes) unopened 1 0 tt
+bytes_have Compat bytes other another = lines_have compat IsSoundIn (record { takes = compat_takes; ends = compat_ends }) (cut bytes) unread 1 0 tt
+bytes_have Algebra bytes other another = absurd (other refl)
+bytes_have Replay bytes other another = absurd (another refl)
 
-pub has_answers : (c : Command) (bytes : List ℕ) → c ≢ Algebra → (out : Output) × Answers c bytes out × NothingFailed out.outcome
-has_answers c bytes other = let t = bytes_have c bytes other in (t.0, t.1, end_unfailed t.0.outcome t.2)
+pub has_answers : (c : Command) (bytes : List ℕ) → c ≢ Algebra → c ≢ Replay → (out : Output) × Answers c bytes out × NothingFailed out.outcome
+has_answers c bytes other another = let t = bytes_have c bytes other another in (t.0, t.1, end_unfailed t.0.outcome t.2)
 
 -- ## Any words
 
@@ -234,13 +238,14 @@ command_decided : (c : Command) (left written : List ℕ) (out : Output) → Ans
 command_decided c left written out wanted Done is h = (Done, Some [], Some (written ++ out.bytes), tt, (refl, (out, wanted, is, refl)))
 command_decided c left written out wanted Usage is h = absurd h
 command_decided c left written out wanted (BadLine n cause) is h = (BadLine n cause, Some [], Some (written ++ out.bytes), tt, (out, wanted, is, refl))
+command_decided c left written out wanted (Refused n cause) is h = (Refused n cause, Some [], Some (written ++ out.bytes), tt, (out, wanted, is, refl))
 command_decided c left written out wanted (TooLong n) is h = (TooLong n, Some [], Some (written ++ out.bytes), tt, (out, wanted, is, refl))
 command_decided c left written out wanted ReadFault is h = absurd h
 command_decided c left written out wanted WriteFault is h = absurd h
 command_decided c left written out wanted NoMemory is h = absurd h
 
-command_answered : (c : Command) (left written : List ℕ) → c ≢ Algebra → IsDecided (Some c) left written
-command_answered c left written other = let t = bytes_have c left other in command_decided c left written t.0 t.1 t.0.outcome refl t.2
+command_answered : (c : Command) (left written : List ℕ) → c ≢ Algebra → c ≢ Replay → IsDecided (Some c) left written
+command_answered c left written other another = let t = bytes_have c left other another in command_decided c left written t.0 t.1 t.0.outcome refl t.2
 
 usage_told : (left written : List ℕ) → IsDecided None left written
 usage_told left written = (Usage, Some left, Some (written ++ usage_output.bytes), tt, (refl, (usage_output, refl, refl, refl)))
@@ -249,16 +254,16 @@ abbrev IsDecidedTo : Option Request → List ℕ → List ℕ → Type 0
 IsDecidedTo request left written =
     (outcome : Outcome) × (rest : Option (List ℕ)) × (after : Option (List ℕ)) × NothingFailed outcome × IsAnsweredTo request (Some left) rest (Some written) after outcome
 
-request_decided : (request : Option Request) (left written : List ℕ) → IsShortWork request → option_and_then command_asked request ≢ Some Algebra → IsDecidedTo request left written
-request_decided None left written few other = usage_told left written
-request_decided (Some request.Trace) left written few other = command_answered Trace left written (λ e. other (ap Some e))
-request_decided (Some request.Replay) left written few other = usage_told left written
-request_decided (Some request.Algebra) left written few other = absurd (other refl)
-request_decided (Some request.Compat) left written few other = command_answered Compat left written (λ e. other (ap Some e))
-request_decided (Some (request.Work seed steps)) left written few other =
+request_decided : (request : Option Request) (left written : List ℕ) → IsShortWork request → option_and_then command_asked request ≢ Some Algebra → option_and_then command_asked request ≢ Some Replay → IsDecidedTo request left written
+request_decided None left written few other another = usage_told left written
+request_decided (Some request.Trace) left written few other another = command_answered Trace left written (λ e. other (ap Some e)) (λ e. another (ap Some e))
+request_decided (Some request.Replay) left written few other another = absurd (another refl)
+request_decided (Some request.Algebra) left written few other another = absurd (other refl)
+request_decided (Some request.Compat) left written few other another = command_answered Compat left written (λ e. other (ap Some e)) (λ e. another (ap Some e))
+request_decided (Some (request.Work seed steps)) left written few other another =
     let line = work_line_exists seed steps few in
     (Done, Some left, Some (written ++ line.0), tt, (refl, (ended line.0, inr (line.0, line.1, refl), refl, refl)))
 
-pub has_answer : (words : List (List ℕ)) (left written : List ℕ) → command_of words ≢ Some Algebra
+pub has_answer : (words : List (List ℕ)) (left written : List ℕ) → command_of words ≢ Some Algebra → command_of words ≢ Some Replay
     → (outcome : Outcome) × (rest : Option (List ℕ)) × (after : Option (List ℕ)) × NothingFailed outcome × IsAnswered words (Some left) rest (Some written) after outcome
-has_answer words left written other = request_decided (request_in words) left written (short_request words) other
+has_answer words left written other another = request_decided (request_in words) left written (short_request words) other another

@@ -5,6 +5,8 @@ pub mod Deciding
 pub mod EntriesTold
 pub mod Loads
 pub mod LoadsExist
+pub mod Replaying
 pub mod Requested
 pub mod ShortTexts
 pub mod Tracing
+pub mod Trees

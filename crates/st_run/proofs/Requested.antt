@@ -59,7 +59,7 @@ short_request (w ∷ ws) = go (bytes_eq w (codes "work"))
 pub nothing_told : (request : Option Request) (left old : Option (List ℕ)) → IsAnsweredTo request left left old old NoMemory
 nothing_told None left old = nothing_answered None left old
 nothing_told (Some Trace) left old = nothing_answered (Some command.Trace) left old
-nothing_told (Some Replay) left old = nothing_answered None left old
+nothing_told (Some Replay) left old = nothing_answered (Some command.Replay) left old
 nothing_told (Some Algebra) left old = nothing_answered (Some command.Algebra) left old
 nothing_told (Some Compat) left old = nothing_answered (Some command.Compat) left old
 nothing_told (Some (Work seed steps)) left old = (refl, (cut_short, inl refl, (0, nothing_added old)))

@@ -27,8 +27,10 @@ use Rattle.st_script.specs.Steps.{StepView}
 use Rattle.st_script.specs.declared.answer.Answer.{Answer}
 use Rattle.st_world.specs.World.{IsNext, opening_document}
 use Rattle.st_world_laws.specs.Worlds.{IsWorld, KeepsRules}
-use Rattle.st_answers.specs.Endings.{bad_text}
-use Rattle.st_answers.specs.Meaning.{EndsAt, FailsAt, FinishesAt, Meaning}
+use Rattle.st_answers.specs.Endings.{end_text}
+use Rattle.st_answers.specs.Meaning.{EndsAt, EndsBy, FailsAt, FinishesAt, LacksFor, Meaning}
+use Rattle.st_answers.specs.declared.cause.EndCause.{EndCause}
+use Rattle.st_answers.specs.declared.cause.EndCause.TheVariants as why
 use Rattle.st_answers.specs.Trace.{IsEntryTold, TakesTrace, TraceState, entry_asked, opened, trace, unopened}
 use Rattle.st_run.specs.declared.trace.Tracing.{Tracing}
 use Rattle.st_run.specs.inside.Replies.{IsRefusal, IsTelling}
@@ -38,35 +40,35 @@ use Rattle.st_run.proofs.Deciding.{fits_rules}
 -- ## Any command
 
 module _ (m : Meaning) (s : m.State) (n : ℕ) (line : List ℕ) where
-  -- a bad line is refused
-  pub refused : (Stands : m.State → Type 0) (c : BadCause) (r : Reply BadCause) → m.IsBad s line c → IsRefusal n c r → IsReply (m.Takes s n line) (EndsAt m s n line) Stands r
+  -- a line ends the run
+  pub refused : (Stands : m.State → Type 0) (c : EndCause) (r : Reply EndCause) → EndsBy m s line c → IsRefusal n c r → IsReply (m.Takes s n line) (EndsAt m s n line) Stands r
   refused Stands c (Goes text) is h = absurd h
-  refused Stands c (Ends text e) is h = (subst (λ (x : BadCause). m.IsBad s line x) (sym h.0) is, h.1 ∙ ap (bad_text n) (sym h.0))
+  refused Stands c (Ends text e) is h = (subst (λ (x : EndCause). EndsBy m s line x) (sym h.0) is, h.1 ∙ ap (end_text n) (sym h.0))
 
   -- a line is answered with a text
-  pub told_so : (Stands : m.State → Type 0) (told : List ℕ) (v : m.State) (r : Reply BadCause) → m.Takes s n line told v → Stands v → IsTelling told r → IsReply (m.Takes s n line) (EndsAt m s n line) Stands r
+  pub told_so : (Stands : m.State → Type 0) (told : List ℕ) (v : m.State) (r : Reply EndCause) → m.Takes s n line told v → Stands v → IsTelling told r → IsReply (m.Takes s n line) (EndsAt m s n line) Stands r
   told_so Stands told v (Goes text) takes stands h = (v, subst (λ (t : List ℕ). m.Takes s n line t v) (sym h) takes, stands)
   told_so Stands told v (Ends text e) takes stands h = absurd h
 
   -- what answers stands for the next state in other words
-  pub reply_as : (These Those : m.State → Type 0) → ((v : m.State) → These v → Those v) → (r : Reply BadCause) → IsReply (m.Takes s n line) (EndsAt m s n line) These r → IsReply (m.Takes s n line) (EndsAt m s n line) Those r
+  pub reply_as : (These Those : m.State → Type 0) → ((v : m.State) → These v → Those v) → (r : Reply EndCause) → IsReply (m.Takes s n line) (EndsAt m s n line) These r → IsReply (m.Takes s n line) (EndsAt m s n line) Those r
   reply_as These Those also (Goes text) h = (h.0, h.1, also h.0 h.2)
   reply_as These Those also (Ends text e) h = h
 
 -- the input ends where it may
-pub ends_well : (m : Meaning) (s : m.State) (n : ℕ) (last : List ℕ) (r : Reply BadCause) → m.Finishes s last → IsTelling last r → IsEnd (FinishesAt m s n) (FailsAt m s n) r
+pub ends_well : (m : Meaning) (s : m.State) (n : ℕ) (last : List ℕ) (r : Reply EndCause) → m.Finishes s last → IsTelling last r → IsEnd (FinishesAt m s n) (FailsAt m s n) r
 ends_well m s n last (Goes text) f h = subst (λ (t : List ℕ). m.Finishes s t) (sym h) f
 ends_well m s n last (Ends text e) f h = absurd h
 
 -- and where a line is missing
-pub ends_badly : (m : Meaning) (s : m.State) (n : ℕ) (c : BadCause) (r : Reply BadCause) → m.Lacks s c → IsRefusal n c r → IsEnd (FinishesAt m s n) (FailsAt m s n) r
+pub ends_badly : (m : Meaning) (s : m.State) (n : ℕ) (c : EndCause) (r : Reply EndCause) → LacksFor m s c → IsRefusal n c r → IsEnd (FinishesAt m s n) (FailsAt m s n) r
 ends_badly m s n c (Goes text) lacks h = absurd h
-ends_badly m s n c (Ends text e) lacks h = (subst (λ (x : BadCause). m.Lacks s x) (sym h.0) lacks, h.1 ∙ ap (bad_text n) (sym h.0))
+ends_badly m s n c (Ends text e) lacks h = (subst (λ (x : EndCause). LacksFor m s x) (sym h.0) lacks, h.1 ∙ ap (end_text n) (sym h.0))
 
 -- ## Steps
 
 -- a step is answered
-pub step_told : (h : HeaderView) (w : WorldState) (s : StepView) (After : WorldState → Type 0) (a : Answer) (r : Reply BadCause) → (v : WorldState) × IsNext h w s v a × After v → IsTelling (answer_line a) r → IsStepReply h w s After r
+pub step_told : (h : HeaderView) (w : WorldState) (s : StepView) (After : WorldState → Type 0) (a : Answer) (r : Reply EndCause) → (v : WorldState) × IsNext h w s v a × After v → IsTelling (answer_line a) r → IsStepReply h w s After r
 step_told h w s After a (Goes text) next is = (a, next.0, next.1, is, next.2)
 step_told h w s After a (Ends text e) next is = absurd is
 
@@ -90,7 +92,7 @@ under_way_next h w v x a k old new o u rules next stands =
     }
 
 -- a line that is a step
-pub step_replied : (h : HeaderView) (w : WorldState) (s : StepView) (k n : ℕ) (old world : World) (o : Option Authors) (line : List ℕ) (r : Reply BadCause) → step_of_line line ≡ Ok s → IsUnderWay k old o h w → IsStepReply h w s (λ v. Stands (k + 1) world h v) r
+pub step_replied : (h : HeaderView) (w : WorldState) (s : StepView) (k n : ℕ) (old world : World) (o : Option Authors) (line : List ℕ) (r : Reply EndCause) → step_of_line line ≡ Ok s → IsUnderWay k old o h w → IsStepReply h w s (λ v. Stands (k + 1) world h v) r
     → IsReply (TakesTrace (opened h w) n line) (EndsAt trace (opened h w) n line) (IsOpenedBy (k + 1) world o) r
 step_replied h w s k n old world o line (Goes text) is u (a, v, next, told, after) = (
   opened h v,
@@ -100,17 +102,17 @@ step_replied h w s k n old world o line (Goes text) is u (a, v, next, told, afte
 step_replied h w s k n old world o line (Ends text e) is u x = absurd x
 
 -- a line that asks for the text of an entry
-pub text_replied : (h : HeaderView) (w : WorldState) (k n entry : ℕ) (cause : BadCause) (world : World) (o : Option Authors) (line told : List ℕ) (r : Reply BadCause) → step_of_line line ≡ Err cause → entry_asked line ≡ Some entry
+pub text_replied : (h : HeaderView) (w : WorldState) (k n entry : ℕ) (cause : BadCause) (world : World) (o : Option Authors) (line told : List ℕ) (r : Reply EndCause) → step_of_line line ≡ Err cause → entry_asked line ≡ Some entry
     → IsEntryTold (opening_document h) w.log entry told → IsUnderWay k world o h w → IsTelling told r → IsReply (TakesTrace (opened h w) n line) (EndsAt trace (opened h w) n line) (IsOpened k world o) r
 text_replied h w k n entry cause world o line told r no_step asks is u telling =
     told_so trace (opened h w) n line (IsOpened k world o) told (opened h w) r (inr (record { entry = entry; cause = cause; no_step = no_step; asks = asks; told = is; state = refl })) u telling
 
 -- a line that is neither
-pub other_refused : (h : HeaderView) (w : WorldState) (k n : ℕ) (cause : BadCause) (world : World) (o : Option Authors) (line : List ℕ) (r : Reply BadCause) → step_of_line line ≡ Err cause → entry_asked line ≡ None
-    → IsRefusal n cause r → IsReply (TakesTrace (opened h w) n line) (EndsAt trace (opened h w) n line) (IsOpened k world o) r
-other_refused h w k n cause world o line r no_step none told = refused trace (opened h w) n line (IsOpened k world o) cause r (no_step, none) told
+pub other_refused : (h : HeaderView) (w : WorldState) (k n : ℕ) (cause : BadCause) (world : World) (o : Option Authors) (line : List ℕ) (r : Reply EndCause) → step_of_line line ≡ Err cause → entry_asked line ≡ None
+    → IsRefusal n (why.Bad cause) r → IsReply (TakesTrace (opened h w) n line) (EndsAt trace (opened h w) n line) (IsOpened k world o) r
+other_refused h w k n cause world o line r no_step none told = refused trace (opened h w) n line (IsOpened k world o) (why.Bad cause) r (no_step, none) told
 
-pub opened_by : (h : HeaderView) (w : WorldState) (k n : ℕ) (world : World) (o : Option Authors) (line : List ℕ) (r : Reply BadCause) → IsReply (TakesTrace (opened h w) n line) (EndsAt trace (opened h w) n line) (IsOpened k world o) r
+pub opened_by : (h : HeaderView) (w : WorldState) (k n : ℕ) (world : World) (o : Option Authors) (line : List ℕ) (r : Reply EndCause) → IsReply (TakesTrace (opened h w) n line) (EndsAt trace (opened h w) n line) (IsOpened k world o) r
     → IsReply (TakesTrace (opened h w) n line) (EndsAt trace (opened h w) n line) (IsOpenedBy (k + 1) world o) r
 opened_by h w k n world o line r x = reply_as trace (opened h w) n line (IsOpened k world o) (IsOpenedBy (k + 1) world o) (λ t y. (k, omega arith, y)) r x
 
@@ -142,7 +144,7 @@ never_spent w goes spent =
     cc
 
 -- a line is answered by the world
-pub line_taken : (old new : Tracing) (n : ℕ) (w u : World) (line : List ℕ) (r : Reply BadCause) → old.world ≡ Some w → new.world ≡ Some u
+pub line_taken : (old new : Tracing) (n : ℕ) (w u : World) (line : List ℕ) (r : Reply EndCause) → old.world ≡ Some w → new.world ≡ Some u
     → ((k : ℕ) (h : HeaderView) (v : WorldState) → IsUnderWay k w old.authors h v → IsReply (TakesTrace (opened h v) n line) (EndsAt trace (opened h v) n line) (IsOpenedBy (k + 1) u new.authors) r)
     → (s : TraceState) → StandsForTrace old n s → IsReply (TakesTrace s n line) (EndsAt trace s n line) (StandsForTrace new (n + 1)) r
 line_taken old new n w u line r is now by unopened stands = absurd (no_world old.world w is stands.0)
@@ -155,7 +157,7 @@ line_taken old new n w u line r is now by (opened h v) (x, at, k, counted, stand
     also (opened g y) x = (u, now, x.0, omega (arith, counted, x.1), x.2)
 
 -- the first line is answered
-pub header_taken : (old new : Tracing) (n : ℕ) (line : List ℕ) (r : Reply BadCause) → old.world ≡ None → new.authors ≡ old.authors
+pub header_taken : (old new : Tracing) (n : ℕ) (line : List ℕ) (r : Reply EndCause) → old.world ≡ None → new.authors ≡ old.authors
     → IsReply (TakesTrace unopened n line) (EndsAt trace unopened n line) (IsOpenedIn new.world) r
     → (s : TraceState) → StandsForTrace old n s → IsReply (TakesTrace s n line) (EndsAt trace s n line) (StandsForTrace new (n + 1)) r
 header_taken old new n line r none same by (opened h v) stands = absurd (no_world old.world stands.0 stands.1 none)
@@ -170,12 +172,12 @@ pub opened_anew : (world : World) (h : HeaderView) → Stands 0 world h empty_st
 opened_anew world h stands = record { stands = stands; fit = begun_authors h; few = λ s. omega arith; kept = tt }
 
 -- the end of the input
-pub end_taken : (t : Tracing) (n : ℕ) (w : World) (r : Reply BadCause) → t.world ≡ Some w → IsTelling [] r
+pub end_taken : (t : Tracing) (n : ℕ) (w : World) (r : Reply EndCause) → t.world ≡ Some w → IsTelling [] r
     → (s : TraceState) → StandsForTrace t n s → IsEnd (FinishesAt trace s n) (FailsAt trace s n) r
 end_taken t n w r is told unopened stands = absurd (no_world t.world w is stands.0)
 end_taken t n w r is told (opened h v) stands = ends_well trace (opened h v) n [] r refl told
 
-pub end_lacks : (t : Tracing) (n : ℕ) (r : Reply BadCause) → t.world ≡ None → IsRefusal n BadCause.Header r
+pub end_lacks : (t : Tracing) (n : ℕ) (r : Reply EndCause) → t.world ≡ None → IsRefusal n (why.Bad BadCause.Header) r
     → (s : TraceState) → StandsForTrace t n s → IsEnd (FinishesAt trace s n) (FailsAt trace s n) r
 end_lacks t n r none told (opened h v) stands = absurd (no_world t.world stands.0 stands.1 none)
-end_lacks t n r none told unopened stands = ends_badly trace unopened n BadCause.Header r refl told
+end_lacks t n r none told unopened stands = ends_badly trace unopened n (why.Bad BadCause.Header) r refl told

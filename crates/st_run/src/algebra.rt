@@ -9,6 +9,7 @@ ghost use Rattle.st_run.specs.inside.Replies.{IsAnswerTo, IsTelling};
 
 use crate::reply::{refuse, tell, tell_nothing};
 use st_agree::FieldApart;
+use st_answers::EndCause;
 use st_back_laws::each_step_has_a_way_back;
 use st_bridge::bridge;
 use st_compose::compose;
@@ -16,7 +17,6 @@ use st_effect::{Consequence, effect};
 use st_family::rebase;
 use st_ids::{Or, Rev};
 use st_join_parts::join;
-use st_json::BadCause;
 use st_log_laws::each_has_a_verdict;
 use st_marks::{Change, Step};
 use st_normal_laws::changes_that_obey_are_normal;
@@ -35,7 +35,7 @@ use std::alloc::{AllocError, Global};
 pub struct Asking {}
 
 // Tells a step.
-fn tell_step(alloc: Global, word: &str, step: &Step) -> Result<Reply<BadCause>, AllocError>
+fn tell_step(alloc: Global, word: &str, step: &Step) -> Result<Reply<EndCause>, AllocError>
     ensures { IfOk result (IsTelling (line_of (step_answer word.now step.now))) }
 {
     let text = step_line(alloc, word, step)?;
@@ -43,7 +43,7 @@ fn tell_step(alloc: Global, word: &str, step: &Step) -> Result<Reply<BadCause>, 
 }
 
 // Tells a change.
-fn tell_change(alloc: Global, word: &str, change: &Change) -> Result<Reply<BadCause>, AllocError>
+fn tell_change(alloc: Global, word: &str, change: &Change) -> Result<Reply<EndCause>, AllocError>
     ensures { IfOk result (IsTelling (line_of (change_answer word.now change.now))) }
 {
     let text = change_line(alloc, word, change)?;
@@ -51,7 +51,7 @@ fn tell_change(alloc: Global, word: &str, change: &Change) -> Result<Reply<BadCa
 }
 
 // Tells what a change does.
-fn tell_effect(alloc: Global, done: &Consequence) -> Result<Reply<BadCause>, AllocError>
+fn tell_effect(alloc: Global, done: &Consequence) -> Result<Reply<EndCause>, AllocError>
     ensures { IfOk result
         (IsTelling (line_of (verdict_answer (codes "effect") done.now.step done.now.verdict))) }
 {
@@ -60,7 +60,7 @@ fn tell_effect(alloc: Global, done: &Consequence) -> Result<Reply<BadCause>, All
 }
 
 // Tells where two arguments don't agree.
-fn tell_apart(alloc: Global, apart: &FieldApart) -> Result<Reply<BadCause>, AllocError>
+fn tell_apart(alloc: Global, apart: &FieldApart) -> Result<Reply<EndCause>, AllocError>
     ensures { IfOk result (IsTelling (line_of (apart_answer apart.now.field))) }
 {
     let text = apart_line(alloc, &apart.field)?;
@@ -68,7 +68,7 @@ fn tell_apart(alloc: Global, apart: &FieldApart) -> Result<Reply<BadCause>, Allo
 }
 
 // Two steps in turn as one.
-fn answer_compose(alloc: Global, first: &Step, then: &Step) -> Result<Reply<BadCause>, AllocError>
+fn answer_compose(alloc: Global, first: &Step, then: &Step) -> Result<Reply<EndCause>, AllocError>
     requires { IsNormal (Asked.Compose first.now then.now) }
     ensures { IfOk result (IsAnswerTo (Asked.Compose first.now then.now)) }
 {
@@ -83,7 +83,7 @@ fn answer_compose(alloc: Global, first: &Step, then: &Step) -> Result<Reply<BadC
 }
 
 // Two parts of a commit as one change.
-fn answer_join(alloc: Global, first: &Change, then: &Change) -> Result<Reply<BadCause>, AllocError>
+fn answer_join(alloc: Global, first: &Change, then: &Change) -> Result<Reply<EndCause>, AllocError>
     requires { IsNormal (Asked.Join first.now then.now) }
     ensures { IfOk result (IsAnswerTo (Asked.Join first.now then.now)) }
 {
@@ -98,7 +98,7 @@ fn answer_join(alloc: Global, first: &Change, then: &Change) -> Result<Reply<Bad
 }
 
 // The way back over a step.
-fn answer_invert(alloc: Global, step: &Step) -> Result<Reply<BadCause>, AllocError>
+fn answer_invert(alloc: Global, step: &Step) -> Result<Reply<EndCause>, AllocError>
     requires { IsNormal (Asked.Invert step.now) }
     ensures { IfOk result (IsAnswerTo (Asked.Invert step.now)) }
 {
@@ -108,7 +108,7 @@ fn answer_invert(alloc: Global, step: &Step) -> Result<Reply<BadCause>, AllocErr
 }
 
 // A change after a step.
-fn answer_rebase(alloc: Global, change: &Change, over: &Step) -> Result<Reply<BadCause>, AllocError>
+fn answer_rebase(alloc: Global, change: &Change, over: &Step) -> Result<Reply<EndCause>, AllocError>
     requires { IsNormal (Asked.Rebase change.now over.now) }
     ensures { IfOk result (IsAnswerTo (Asked.Rebase change.now over.now)) }
 {
@@ -123,7 +123,7 @@ fn answer_rebase(alloc: Global, change: &Change, over: &Step) -> Result<Reply<Ba
 }
 
 // A step after a change.
-fn answer_bridge(alloc: Global, change: &Change, step: &Step) -> Result<Reply<BadCause>, AllocError>
+fn answer_bridge(alloc: Global, change: &Change, step: &Step) -> Result<Reply<EndCause>, AllocError>
     requires { IsNormal (Asked.Bridge change.now step.now) }
     ensures { IfOk result (IsAnswerTo (Asked.Bridge change.now step.now)) }
 {
@@ -140,7 +140,7 @@ fn answer_bridge(alloc: Global, change: &Change, step: &Step) -> Result<Reply<Ba
 }
 
 // What a change does where it stands.
-fn answer_effect(alloc: Global, change: &Change) -> Result<Reply<BadCause>, AllocError>
+fn answer_effect(alloc: Global, change: &Change) -> Result<Reply<EndCause>, AllocError>
     requires { IsNormal (Asked.Effect change.now) }
     ensures { IfOk result (IsAnswerTo (Asked.Effect change.now)) }
 {
@@ -155,7 +155,7 @@ fn answer_revert(
     step: &Step,
     rev: Rev,
     under: Rev,
-) -> Result<Reply<BadCause>, AllocError>
+) -> Result<Reply<EndCause>, AllocError>
     requires { IsNormal (Asked.Revert step.now rev under) }
     ensures { IfOk result (IsAnswerTo (Asked.Revert step.now rev under)) }
 {
@@ -165,7 +165,7 @@ fn answer_revert(
 }
 
 // Answers a request.
-fn answer(alloc: Global, request: &Request) -> Result<Reply<BadCause>, AllocError>
+fn answer(alloc: Global, request: &Request) -> Result<Reply<EndCause>, AllocError>
     requires { IsNormal request.now }
     ensures { IfOk result (IsAnswerTo request.now) }
 {
@@ -181,7 +181,7 @@ fn answer(alloc: Global, request: &Request) -> Result<Reply<BadCause>, AllocErro
 }
 
 impl Responder for Asking {
-    type Ending = BadCause;
+    type Ending = EndCause;
 
     ghost State = { algebra.State };
 
@@ -200,7 +200,7 @@ impl Responder for Asking {
         alloc: Global,
         number: u32,
         line: &[u8],
-    ) -> Result<Reply<BadCause>, AllocError> {
+    ) -> Result<Reply<EndCause>, AllocError> {
         match read_request(alloc, line) {
             Ok(request) => answer(alloc, &request),
             Err(Or::NoMemory) => Err(AllocError),
@@ -208,7 +208,7 @@ impl Responder for Asking {
         }
     }
 
-    fn end(&mut self, alloc: Global, _number: u32) -> Result<Reply<BadCause>, AllocError> {
+    fn end(&mut self, alloc: Global, _number: u32) -> Result<Reply<EndCause>, AllocError> {
         Ok(tell_nothing(alloc))
     }
 }

@@ -9,12 +9,13 @@ ghost use Rattle.st_run.specs.inside.Working.{IsShortWork};
 
 use crate::algebra::Asking;
 use crate::compat::Comparing;
+use crate::replay::Replaying;
 use crate::trace::Tracing;
 use crate::work::tell_load;
 use serde_json::{Value, json};
-use st_answers::{Command, Outcome};
+use st_answers::{Command, EndCause, Outcome};
 use st_io::{Sink, Source};
-use st_json::{BadCause, write_line};
+use st_json::write_line;
 use st_pieces::{RunEnd, answer_lines, write_all};
 use st_words::{Request, request_of};
 use std::alloc::{AllocError, Global};
@@ -43,12 +44,13 @@ fn send_usage<K: Sink>(alloc: Global, sink: &mut K) -> Outcome
 }
 
 // The outcome of a run over lines.
-fn outcome_of(end: RunEnd<BadCause>) -> Outcome
+fn outcome_of(end: RunEnd<EndCause>) -> Outcome
     ensures { result ≡ outcome_of end }
 {
     match end {
         RunEnd::Done => Outcome::Done,
-        RunEnd::Bad(line, cause) => Outcome::BadLine { line, cause },
+        RunEnd::Bad(line, EndCause::Bad(cause)) => Outcome::BadLine { line, cause },
+        RunEnd::Bad(line, EndCause::Refused(cause)) => Outcome::Refused { line, cause },
         RunEnd::TooLong(line) => Outcome::TooLong { line },
         RunEnd::ReadFault => Outcome::ReadFault,
         RunEnd::WriteFault => Outcome::WriteFault,
@@ -57,7 +59,7 @@ fn outcome_of(end: RunEnd<BadCause>) -> Outcome
 }
 
 // Answers a trace.
-fn trace<S: Source, K: Sink>(alloc: Global, source: &mut S, sink: &mut K) -> RunEnd<BadCause>
+fn trace<S: Source, K: Sink>(alloc: Global, source: &mut S, sink: &mut K) -> RunEnd<EndCause>
     ensures carried { IsCarriedOut Command.Trace (S.left source.old) (S.left source.new)
         (K.written sink.old) (K.written sink.new) (outcome_of result) }
     ensures read_fault { result ≡ RunEnd.ReadFault → Rose (S.faults source.old) (S.faults source.new) }
@@ -70,8 +72,19 @@ fn trace<S: Source, K: Sink>(alloc: Global, source: &mut S, sink: &mut K) -> Run
     answer_lines(alloc, &mut tracing, source, sink)
 }
 
+// Answers messages.
+fn replay<S: Source, K: Sink>(alloc: Global, source: &mut S, sink: &mut K) -> RunEnd<EndCause>
+    ensures carried { IsCarriedOut Command.Replay (S.left source.old) (S.left source.new)
+        (K.written sink.old) (K.written sink.new) (outcome_of result) }
+    ensures read_fault { result ≡ RunEnd.ReadFault → Rose (S.faults source.old) (S.faults source.new) }
+    ensures write_fault { result ≡ RunEnd.WriteFault → Rose (K.faults sink.old) (K.faults sink.new) }
+{
+    let mut replaying = Replaying { replay: None };
+    answer_lines(alloc, &mut replaying, source, sink)
+}
+
 // Answers two schemas.
-fn compat<S: Source, K: Sink>(alloc: Global, source: &mut S, sink: &mut K) -> RunEnd<BadCause>
+fn compat<S: Source, K: Sink>(alloc: Global, source: &mut S, sink: &mut K) -> RunEnd<EndCause>
     ensures carried { IsCarriedOut Command.Compat (S.left source.old) (S.left source.new)
         (K.written sink.old) (K.written sink.new) (outcome_of result) }
     ensures read_fault { result ≡ RunEnd.ReadFault → Rose (S.faults source.old) (S.faults source.new) }
@@ -85,7 +98,7 @@ fn compat<S: Source, K: Sink>(alloc: Global, source: &mut S, sink: &mut K) -> Ru
 }
 
 // Answers requests to the algebra of changes.
-fn algebra<S: Source, K: Sink>(alloc: Global, source: &mut S, sink: &mut K) -> RunEnd<BadCause>
+fn algebra<S: Source, K: Sink>(alloc: Global, source: &mut S, sink: &mut K) -> RunEnd<EndCause>
     ensures carried { IsCarriedOut Command.Algebra (S.left source.old) (S.left source.new)
         (K.written sink.old) (K.written sink.new) (outcome_of result) }
     ensures read_fault { result ≡ RunEnd.ReadFault → Rose (S.faults source.old) (S.faults source.new) }
@@ -101,7 +114,7 @@ fn answer<S: Source, K: Sink>(
     command: Command,
     source: &mut S,
     sink: &mut K,
-) -> RunEnd<BadCause>
+) -> RunEnd<EndCause>
     ensures carried { IsCarriedOut command (S.left source.old) (S.left source.new)
         (K.written sink.old) (K.written sink.new) (outcome_of result) }
     ensures read_fault { result ≡ RunEnd.ReadFault → Rose (S.faults source.old) (S.faults source.new) }
@@ -109,6 +122,7 @@ fn answer<S: Source, K: Sink>(
 {
     match command {
         Command::Trace => trace(alloc, source, sink),
+        Command::Replay => replay(alloc, source, sink),
         Command::Compat => compat(alloc, source, sink),
         Command::Algebra => algebra(alloc, source, sink),
     }
@@ -130,10 +144,11 @@ fn answer_request<S: Source, K: Sink>(
 {
     match request {
         Some(Request::Trace) => outcome_of(answer(alloc, Command::Trace, source, sink)),
+        Some(Request::Replay) => outcome_of(answer(alloc, Command::Replay, source, sink)),
         Some(Request::Compat) => outcome_of(answer(alloc, Command::Compat, source, sink)),
         Some(Request::Algebra) => outcome_of(answer(alloc, Command::Algebra, source, sink)),
         Some(Request::Work { seed, steps }) => tell_load(alloc, seed, steps, sink),
-        Some(Request::Replay) | None => send_usage(alloc, sink),
+        None => send_usage(alloc, sink),
     }
 }
 

@@ -11,6 +11,7 @@ ghost use Rattle.st_run.specs.inside.Replies.{IsRefusal, IsTelling};
 ghost use Rattle.st_run.specs.inside.Standing.{IsStoredIn, StandsForCompat};
 
 use crate::reply::{refuse, tell, tell_nothing};
+use st_answers::EndCause;
 use st_compat::{compat, further_cause, read_schema_line, relation_line};
 use st_ids::Or;
 use st_json::BadCause;
@@ -31,7 +32,7 @@ fn take_stored(
     schema: &mut Option<Schema>,
     number: u32,
     line: &[u8],
-) -> Result<Reply<BadCause>, AllocError>
+) -> Result<Reply<EndCause>, AllocError>
     ensures { IfOk result (IsReply (TakesCompat unread number line.now)
         (EndsAt compat unread number line.now) (IsStoredIn schema.new)) }
 {
@@ -50,7 +51,7 @@ fn tell_relation(
     alloc: Global,
     stored: &Schema,
     view: &Schema,
-) -> Result<Reply<BadCause>, AllocError>
+) -> Result<Reply<EndCause>, AllocError>
     ensures { IfOk result (λ r. (relation : Relation) × IsRelation stored.now view.now relation
         × IsTelling (relation_line relation) r) }
 {
@@ -65,7 +66,7 @@ fn take_view(
     schema: &Schema,
     number: u32,
     line: &[u8],
-) -> Result<Reply<BadCause>, AllocError>
+) -> Result<Reply<EndCause>, AllocError>
     ensures { IfOk result (IsReply (TakesCompat (stored schema.now) number line.now)
         (EndsAt compat (stored schema.now) number line.now) (λ t. t ≡ related)) }
 {
@@ -77,15 +78,15 @@ fn take_view(
 }
 
 // Refuses a line that should not be there.
-fn refuse_further(alloc: Global, number: u32, line: &[u8]) -> Result<Reply<BadCause>, AllocError>
-    ensures { IfOk result (IsRefusal number (further_cause line.now)) }
+fn refuse_further(alloc: Global, number: u32, line: &[u8]) -> Result<Reply<EndCause>, AllocError>
+    ensures { IfOk result (IsRefusal number (EndCause.Bad (further_cause line.now))) }
 {
     let cause = further_cause(alloc, line)?;
     refuse(alloc, number, cause)
 }
 
 impl Responder for Comparing {
-    type Ending = BadCause;
+    type Ending = EndCause;
 
     ghost State = { CompatState };
 
@@ -104,7 +105,7 @@ impl Responder for Comparing {
         alloc: Global,
         number: u32,
         line: &[u8],
-    ) -> Result<Reply<BadCause>, AllocError> {
+    ) -> Result<Reply<EndCause>, AllocError> {
         if self.done {
             return refuse_further(alloc, number, line);
         }
@@ -117,7 +118,7 @@ impl Responder for Comparing {
         }
     }
 
-    fn end(&mut self, alloc: Global, number: u32) -> Result<Reply<BadCause>, AllocError> {
+    fn end(&mut self, alloc: Global, number: u32) -> Result<Reply<EndCause>, AllocError> {
         if self.done {
             return Ok(tell_nothing(alloc));
         }

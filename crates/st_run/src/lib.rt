@@ -5,9 +5,11 @@ mod algebra;
 mod command;
 mod compat;
 mod laws;
+mod replay;
 mod reply;
 mod text;
 mod trace;
+mod tree;
 mod work;
 
 pub use command::run;

@@ -17,6 +17,7 @@ ghost use Rattle.st_run.specs.inside.Standing.{GoesOn, IsOpened, IsOpenedBy, IsO
 
 use crate::reply::{refuse, tell, tell_nothing};
 use crate::text::{entry_asked, tell_entry};
+use st_answers::EndCause;
 use st_entry_texts::Authors;
 use st_ids::Or;
 use st_json::BadCause;
@@ -53,7 +54,7 @@ fn take_step(
     alloc: Global,
     world: &mut World,
     step: &TraceStep,
-) -> Result<Reply<BadCause>, AllocError>
+) -> Result<Reply<EndCause>, AllocError>
     requires goes { GoesOn world.old }
     requires form { IsWithinLimits (step_view step.now) }
     ensures { IfOk result (λ r. (k : ℕ) (h : HeaderView) (w : WorldState) → Stands k world.old h w
@@ -72,7 +73,7 @@ fn take_other(
     number: u32,
     line: &[u8],
     cause: BadCause,
-) -> Result<Reply<BadCause>, AllocError>
+) -> Result<Reply<EndCause>, AllocError>
     requires under_way { TellsTexts world.now authors.old }
     requires no_step { step_of_line line.now ≡ Err cause }
     ensures { IfOk result (λ r. (k : ℕ) (h : HeaderView) (w : WorldState) → IsUnderWay k world.now authors.old h w
@@ -96,7 +97,7 @@ fn take_read(
     number: u32,
     line: &[u8],
     read: &Line,
-) -> Result<Reply<BadCause>, AllocError>
+) -> Result<Reply<EndCause>, AllocError>
     requires under_way { TellsTexts world.old authors.old }
     requires read { line_view read.now ≡ step_of_line line.now }
     ensures { IfOk result (λ r. (k : ℕ) (h : HeaderView) (w : WorldState) → IsUnderWay k world.old authors.old h w
@@ -116,7 +117,7 @@ fn take_line(
     authors: &mut Option<Authors>,
     number: u32,
     line: &[u8],
-) -> Result<Reply<BadCause>, AllocError>
+) -> Result<Reply<EndCause>, AllocError>
     requires under_way { TellsTexts world.old authors.old }
     ensures { IfOk result (λ r. (k : ℕ) (h : HeaderView) (w : WorldState) → IsUnderWay k world.old authors.old h w
         → IsReply (TakesTrace (opened h w) number line.now) (EndsAt trace (opened h w) number line.now)
@@ -137,7 +138,7 @@ pub fn read_header(alloc: Global, line: &[u8]) -> Result<World, Or<BadCause>>
 }
 
 // Answers a header.
-fn tell_header(alloc: Global) -> Result<Reply<BadCause>, AllocError>
+pub fn tell_header(alloc: Global) -> Result<Reply<EndCause>, AllocError>
     ensures { IfOk result (IsTelling (answer_line Answer.Header)) }
 {
     let text = answer_line(alloc, &Answer::Header)?;
@@ -150,7 +151,7 @@ fn take_header(
     opening: &mut Option<World>,
     number: u32,
     line: &[u8],
-) -> Result<Reply<BadCause>, AllocError>
+) -> Result<Reply<EndCause>, AllocError>
     ensures { IfOk result (IsReply (TakesTrace unopened number line.now)
         (EndsAt trace unopened number line.now) (IsOpenedIn opening.new)) }
 {
@@ -165,7 +166,7 @@ fn take_header(
 }
 
 impl Responder for Tracing {
-    type Ending = BadCause;
+    type Ending = EndCause;
 
     ghost State = { TraceState };
 
@@ -184,14 +185,14 @@ impl Responder for Tracing {
         alloc: Global,
         number: u32,
         line: &[u8],
-    ) -> Result<Reply<BadCause>, AllocError> {
+    ) -> Result<Reply<EndCause>, AllocError> {
         match &mut self.world {
             Some(world) => take_line(alloc, world, &mut self.authors, number, line),
             None => take_header(alloc, &mut self.world, number, line),
         }
     }
 
-    fn end(&mut self, alloc: Global, number: u32) -> Result<Reply<BadCause>, AllocError> {
+    fn end(&mut self, alloc: Global, number: u32) -> Result<Reply<EndCause>, AllocError> {
         match &self.world {
             Some(_) => Ok(tell_nothing(alloc)),
             None => refuse(alloc, number, BadCause::Header),

@@ -1,6 +1,5 @@
 -- What stands for the states of a trace and of two schemas.
 use Rattle.std.specs.Prelude.{◌≡◌, ℕ, ◌+◌, ◌<◌, ◌≤◌, ◌^◌, true, false, Option, Some, None, IfSome}
-use Rattle.st_json.specs.declared.fault.BadCause.{BadCause}
 use Rattle.st_lists.specs.declared.lists.WorldState.{WorldState}
 use Rattle.st_script.specs.AnswerText.{answer_line}
 use Rattle.st_script.specs.Header.{HeaderView}
@@ -16,6 +15,7 @@ use Rattle.st_plain.specs.Stands.{Stands}
 use Rattle.st_plain.specs.declared.world.World.{World}
 use Rattle.st_pieces.specs.declared.responder.Reply.{Reply}
 use Rattle.st_pieces.specs.declared.responder.Reply.TheVariants.{Goes, Ends}
+use Rattle.st_answers.specs.declared.cause.EndCause.{EndCause}
 use Rattle.st_answers.specs.Trace.{TraceState, unopened, opened}
 use Rattle.st_answers.specs.Compat.{CompatState, unread, stored, related}
 use Rattle.st_schema.specs.Schema.{SchemaView}
@@ -64,7 +64,7 @@ StandsForTrace t n unopened = (t.world ≡ None) × (t.authors ≡ None) × (n �
 StandsForTrace t n (opened h w) = (world : World) × (t.world ≡ Some world) × (k : ℕ) × (k + 2 ≤ n) × IsUnderWay k world t.authors h w
 
 -- a step is answered
-abbrev pub IsStepReply : HeaderView → WorldState → StepView → (WorldState → Type 0) → Reply BadCause → Type 0
+abbrev pub IsStepReply : HeaderView → WorldState → StepView → (WorldState → Type 0) → Reply EndCause → Type 0
 IsStepReply h w s After (Goes text) =
     (a : Answer) × (v : WorldState) × IsNext h w s v a × (text.items ≡ answer_line a) × After v
 IsStepReply h w s After (Ends text e) = ⊥
