@@ -135,10 +135,7 @@ pub replay_ends_one : (s t : ReplayState) (a b : List ℕ) → AreOneLog s t →
 replay_ends_one unopened t a b k y z = absurd y
 replay_ends_one (opened h es) unopened a b k y z = absurd z
 replay_ends_one (opened h es) (opened g fs) a b k y z =
-    y.told ∙ ap (λ (t : List ℕ). answer_line (answer.Show t)) (shown_once (opening_document g) es fs k.3 y.document z.document y.tree z.tree (subst (λ (i : HeaderView). Ran i) k.0 y.ran) z.ran y.shown z.shown) ∙ sym z.told
-  where
-    abbrev Ran : HeaderView → Type 0
-    Ran i = Run (opening_document i) (commits_in es) y.document
+    y.told ∙ ap (λ (t : List ℕ). answer_line (answer.Show t)) (shown_once (opening_document g) es fs k.3 y.document z.document y.tree z.tree (subst (λ (i : HeaderView). Run (opening_document i) (commits_in es) y.document) k.0 y.ran) z.ran y.shown z.shown) ∙ sym z.told
 
 pub replay_lacks_one : (s t : ReplayState) (c e : BadCause) → AreOneLog s t → LacksInReplay s c → LacksInReplay t e → c ≡ e
 replay_lacks_one (opened h es) t c e k y z = absurd y

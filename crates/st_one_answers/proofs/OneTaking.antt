@@ -318,12 +318,7 @@ module _ (es fs : List Entry) (o : OneByOne AlikeEntry es fs) where
   said_alike s told.Leave read h = h
   said_alike s (told.Ack r) read h = h
   said_alike s (told.Commit r ids d) read h =
-      (h.0, subst (λ (rs : List IdRange). ReadBy rs s ids d h.0) (ranges_alike (take r es) (take r fs) (taken AlikeEntry r es fs o)) h.1, h.2)
-    where
-      abbrev ReadBy : List IdRange → ℕ → IdRange → Data → Option (Option Change) → Type 0
-      ReadBy rs s ids d c =
-          IsReadSo (change_of any_form d)
-          (change_of (form_of_ids (λ z. op_id_in (table_of rs) [] s (generated_with ids) z)) d) c
+      (h.0, subst (λ (rs : List IdRange). IsReadSo (change_of any_form d) (change_of (form_of_ids (λ z. op_id_in (table_of rs) [] s (generated_with ids) z)) d) h.0) (ranges_alike (take r es) (take r fs) (taken AlikeEntry r es fs o)) h.1, h.2)
 
   pub read_alike : (d : Data) (read : Option Message) → IsRead es d read → IsRead fs d read
   read_alike d read h = go (message_of d) h
@@ -408,8 +403,8 @@ module _ (O : Document) (sound : IsSoundInForm O) (made : IsMadeUnder (opening �
       let once = said_once m.session m.said x.enters.body y.enters.body v u (x.enters.valid cause.RefBack) x.enters.says says x.enters.verdict y.enters.verdict in
       let session : m.session ≡ y.message.session = ap (λ (z : Message). z.session) same in
       let longer : OneByOne AlikeEntry (log_with es m.session x.enters.body) (log_with fs y.message.session y.enters.body) =
-        behind AlikeEntry es fs (record { n = length es + 1; session = m.session; body = x.enters.body } ∷ []) (record { n = length fs + 1; session = y.message.session; body = y.enters.body } ∷ []) o
-        (record { n = ap (λ z. z + 1) (as_long AlikeEntry es fs o); session = session; body = once.0 }, tt) in (
+      behind AlikeEntry es fs (record { n = length es + 1; session = m.session; body = x.enters.body } ∷ []) (record { n = length fs + 1; session = y.message.session; body = y.enters.body } ∷ []) o
+      (record { n = ap (λ z. z + 1) (as_long AlikeEntry es fs o); session = session; body = once.0 }, tt) in (
         x.number ∙ ap (λ (z : Message). z.n) same ∙ sym y.number,
         once.1,
         subst (λ (l : List Entry). OneByOne AlikeEntry l later) (sym x.enters.after) (subst (λ (l : List Entry). OneByOne AlikeEntry (log_with es m.session x.enters.body) l) (sym y.enters.after) longer),

@@ -14,8 +14,8 @@ use Rattle.st_answers.specs.declared.cause.EndCause.{EndCause}
 use Rattle.st_answers.specs.declared.cause.EndCause.TheVariants as why
 use Rattle.st_run.specs.declared.compat.Comparing.{Comparing}
 use Rattle.st_run.specs.inside.Replies.{IsRefusal, IsTelling}
-use Rattle.st_run.specs.inside.Standing.{IsStoredIn, StandsForCompat}
-use Rattle.st_run.proofs.Tracing.{ends_badly, ends_well, refused, reply_as, told_so}
+use Rattle.st_run.specs.inside.Comparing.{IsStoredIn, StandsForCompat}
+use Rattle.st_run.proofs.Replying.{ends_badly, ends_well, refused, reply_as, told_so}
 
 -- the stored schema is taken
 pub stored_told : (n : ℕ) (line : List ℕ) (s : SchemaView) (o : Option SchemaView) (r : Reply EndCause) → IsSchemaLine line (Ok s) → o ≡ Some s → IsTelling [] r

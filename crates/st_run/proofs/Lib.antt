@@ -6,6 +6,7 @@ pub mod EntriesTold
 pub mod Loads
 pub mod LoadsExist
 pub mod Replaying
+pub mod Replying
 pub mod Requested
 pub mod ShortTexts
 pub mod Tracing

@@ -26,7 +26,7 @@ use Rattle.st_replay.specs.declared.replay.Replay.{Replay}
 use Rattle.st_run.specs.declared.replay.Replaying.{Replaying}
 use Rattle.st_run.specs.inside.Replaying.{IsMessageReply, IsReplayAt, IsReplayIn, IsTreeReply, StandsForReplay}
 use Rattle.st_run.specs.inside.Replies.{IsRefusal, IsTelling}
-use Rattle.st_run.proofs.Tracing.{ends_badly, reply_as}
+use Rattle.st_run.proofs.Replying.{ends_badly, reply_as}
 use Rattle.st_script.specs.Header.{HeaderView}
 use Rattle.st_valid.specs.Room.{HasRoomForNames}
 use Rattle.st_valid.specs.declared.message.ReplayCause.{ReplayCause}

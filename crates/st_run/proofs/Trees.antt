@@ -57,7 +57,7 @@ log_has_schemas h log D k valid ran e there =
     let room : HasRoomForNames O = λ n. omega (arith, s.short n) in
     let opened = header_opened h k in
     let is = entries_have_schemas h.schema O (commits_in log) opened (valid_commits O s.sound s.made room valid) (have_new_revisions valid)
-      (room_of_names O (commits_in log) room (all_stand O s.sound s.made room valid).names) D ran e there in
+    (room_of_names O (commits_in log) room (all_stand O s.sound s.made room valid).names) D ran e there in
     (is.0, (is.1, is.2.written))
 
 -- ## The schema last in effect

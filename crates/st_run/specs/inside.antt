@@ -1,4 +1,5 @@
 -- The words of private functions: no public contract reaches them.
+pub mod Comparing
 pub mod Ends
 pub mod Replaying
 pub mod Replies

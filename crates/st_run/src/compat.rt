@@ -8,7 +8,7 @@ ghost use Rattle.st_pieces.specs.Told.{IsReply};
 ghost use Rattle.st_answers.specs.Compat.{CompatState, TakesCompat, compat, unread, stored, related};
 ghost use Rattle.st_answers.specs.Meaning.{EndsAt, FailsAt, FinishesAt};
 ghost use Rattle.st_run.specs.inside.Replies.{IsRefusal, IsTelling};
-ghost use Rattle.st_run.specs.inside.Standing.{IsStoredIn, StandsForCompat};
+ghost use Rattle.st_run.specs.inside.Comparing.{IsStoredIn, StandsForCompat};
 
 use crate::reply::{refuse, tell, tell_nothing};
 use st_answers::EndCause;

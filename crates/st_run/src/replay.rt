@@ -15,8 +15,7 @@ ghost use Rattle.st_script.specs.Header.{HeaderView, header_line, header_view};
 ghost use Rattle.st_world.specs.World.{opening_document};
 ghost use Rattle.st_world_laws.specs.Worlds.{IsHeader};
 
-use crate::reply::{refuse, refuse_message, tell};
-use crate::trace::tell_header;
+use crate::reply::{refuse, refuse_message, tell, tell_header};
 use crate::tree::tree_text;
 use serde_json::{Value, json};
 use st_answers::EndCause;

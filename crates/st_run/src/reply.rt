@@ -3,12 +3,14 @@ ghost use Rattle.std.specs.Prelude.{◌≡◌, [], IfOk};
 ghost use Rattle.serde_json.specs.View.{view};
 ghost use Rattle.st_answers.specs.Endings.{bad_data, bad_text, cause_name, refused_data, refused_name, refused_text};
 ghost use Rattle.st_run.specs.inside.Replies.{IsRefusal, IsTelling};
+ghost use Rattle.st_script.specs.AnswerText.{answer_line};
 
 use serde_json::{Value, json};
 use st_answers::EndCause;
 use st_ids::Text;
 use st_json::{BadCause, write_line};
 use st_pieces::Reply;
+use st_script::{Answer, answer_line};
 use st_valid::ReplayCause;
 use std::alloc::{AllocError, Global};
 
@@ -110,6 +112,14 @@ pub fn tell(alloc: Global, text: &Text) -> Result<Reply<EndCause>, AllocError>
 {
     let bytes = bytes_of(alloc, text)?;
     Ok(Reply::Goes(bytes))
+}
+
+/// The run goes on: a header was read.
+pub fn tell_header(alloc: Global) -> Result<Reply<EndCause>, AllocError>
+    ensures { IfOk result (IsTelling (answer_line Answer.Header)) }
+{
+    let text = answer_line(alloc, &Answer::Header)?;
+    tell(alloc, &text)
 }
 
 /// The run goes on, and nothing is told.

@@ -1,7 +1,6 @@
 //! The answers to the lines of a trace.
 ghost use Rattle.std.specs.Prelude.{◌≡◌, ℕ, ◌+◌, Ok, Err, IfOk, codes};
 ghost use Rattle.st_ids.specs.Or.{IfRefused};
-ghost use Rattle.st_script.specs.AnswerText.{answer_line};
 ghost use Rattle.st_script.specs.Header.{HeaderView, header_line};
 ghost use Rattle.st_script.specs.Line.{step_of_line, line_view};
 ghost use Rattle.st_script.specs.Steps.{step_view, IsWithinLimits};
@@ -12,10 +11,9 @@ ghost use Rattle.st_plain.specs.Stands.{Stands};
 ghost use Rattle.st_world.specs.World.{IsNext};
 ghost use Rattle.st_answers.specs.Meaning.{EndsAt, FailsAt, FinishesAt};
 ghost use Rattle.st_answers.specs.Trace.{TraceState, TakesTrace, trace, unopened, opened};
-ghost use Rattle.st_run.specs.inside.Replies.{IsTelling};
 ghost use Rattle.st_run.specs.inside.Standing.{GoesOn, IsOpened, IsOpenedBy, IsOpenedIn, IsStepReply, IsUnderWay, StandsForTrace, TellsTexts};
 
-use crate::reply::{refuse, tell, tell_nothing};
+use crate::reply::{refuse, tell, tell_header, tell_nothing};
 use crate::text::{entry_asked, tell_entry};
 use st_answers::EndCause;
 use st_entry_texts::Authors;
@@ -135,14 +133,6 @@ pub fn read_header(alloc: Global, line: &[u8]) -> Result<World, Or<BadCause>>
 {
     let header = header_of(alloc, line, "trace")?;
     Ok(World::new(alloc, header)?)
-}
-
-// Answers a header.
-pub fn tell_header(alloc: Global) -> Result<Reply<EndCause>, AllocError>
-    ensures { IfOk result (IsTelling (answer_line Answer.Header)) }
-{
-    let text = answer_line(alloc, &Answer::Header)?;
-    tell(alloc, &text)
 }
 
 // Answers the first line.

@@ -1,5 +1,5 @@
--- What stands for the states of a trace and of two schemas.
-use Rattle.std.specs.Prelude.{◌≡◌, ℕ, ◌+◌, ◌<◌, ◌≤◌, ◌^◌, true, false, Option, Some, None, IfSome}
+-- What stands for the states of a trace.
+use Rattle.std.specs.Prelude.{◌≡◌, ℕ, ◌+◌, ◌<◌, ◌≤◌, ◌^◌, Option, Some, None, IfSome}
 use Rattle.st_lists.specs.declared.lists.WorldState.{WorldState}
 use Rattle.st_script.specs.AnswerText.{answer_line}
 use Rattle.st_script.specs.Header.{HeaderView}
@@ -17,12 +17,7 @@ use Rattle.st_pieces.specs.declared.responder.Reply.{Reply}
 use Rattle.st_pieces.specs.declared.responder.Reply.TheVariants.{Goes, Ends}
 use Rattle.st_answers.specs.declared.cause.EndCause.{EndCause}
 use Rattle.st_answers.specs.Trace.{TraceState, unopened, opened}
-use Rattle.st_answers.specs.Compat.{CompatState, unread, stored, related}
-use Rattle.st_schema.specs.Schema.{SchemaView}
 use Rattle.st_run.specs.declared.trace.Tracing.{Tracing}
-use Rattle.st_run.specs.declared.compat.Comparing.{Comparing}
-
--- ## A trace
 
 -- a world stands for some lists, so that it isn't spent, and one step more can be counted
 abbrev pub GoesOn : World → Type 0
@@ -68,14 +63,3 @@ abbrev pub IsStepReply : HeaderView → WorldState → StepView → (WorldState 
 IsStepReply h w s After (Goes text) =
     (a : Answer) × (v : WorldState) × IsNext h w s v a × (text.items ≡ answer_line a) × After v
 IsStepReply h w s After (Ends text e) = ⊥
-
--- ## Two schemas
-
--- the stored schema is kept
-abbrev pub IsStoredIn : Option SchemaView → CompatState → Type 0
-IsStoredIn o t = (s : SchemaView) × (o ≡ Some s) × (t ≡ stored s)
-
-abbrev pub StandsForCompat : Comparing → ℕ → CompatState → Type 0
-StandsForCompat c n unread = (c.done ≡ false) × (c.schema ≡ None)
-StandsForCompat c n (stored s) = (c.done ≡ false) × (c.schema ≡ Some s)
-StandsForCompat c n related = c.done ≡ true

@@ -5,7 +5,8 @@ use Rattle.st_script.specs.AnswerText.{answer_line}
 use Rattle.st_script.specs.declared.answer.Answer.TheVariants as answer
 use Rattle.st_answers.specs.Trace.{opened, trace, unopened}
 use Rattle.st_run.specs.inside.Standing.{IsOpenedIn}
-use Rattle.st_run.proofs.Tracing.{opened_anew, told_so}
+use Rattle.st_run.proofs.Replying.{told_so}
+use Rattle.st_run.proofs.Tracing.{opened_anew}
 use Rattle.st_run.proofs.trace.take_header.Goals as goal
 
 pub returns-in-Ok : goal.returns-in-Ok
