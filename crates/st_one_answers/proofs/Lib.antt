@@ -4,7 +4,6 @@ mod EachWorldGoesOn
 mod BothAlike
 mod OneMessage
 mod OneListOfAnswers
-mod OneTaking
 mod OneReplay
 mod OneRequest
 mod OneRun

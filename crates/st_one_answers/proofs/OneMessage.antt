@@ -19,7 +19,7 @@ use Rattle.st_idcodec.specs.OpText.{atom_data, rev_data}
 use Rattle.st_msg.specs.Messages.{Ack, Commit, Join, Leave, MessageView, SaidView}
 use Rattle.st_one_laws.specs.AlikeWorlds.{AlikeBody, AlikeEntry, InBoth, IsAlike, OneByOne, bare}
 use Rattle.st_one_laws.proofs.AlikeIntents.{lead_alike}
-use Rattle.st_one_laws.proofs.AlikeLogs.{minimum_alike, ranges_alike}
+use Rattle.st_one_laws.proofs.AlikeLogs.{authors_alike, minimum_alike, ranges_alike}
 use Rattle.st_one_laws.proofs.OneByOne.{behind, dropped, filter_mapped, filtered, got, taken}
 use Rattle.st_same_laws.proofs.OneChange.{embedding_same}
 use Rattle.st_texts.specs.Names.{names_seen}
@@ -27,19 +27,6 @@ use Rattle.st_texts.specs.Texts.{IsCommitSaid, IsMessageOf, IsSaid}
 use Rattle.st_valid.specs.Author.{author_list, generated_with}
 
 -- ## What an author writes over
-
-commits_alike : (es fs : List Entry) → OneByOne AlikeEntry es fs → OneByOne IsAlike (commits_in es) (commits_in fs)
-commits_alike es fs o = filter_mapped AlikeEntry IsAlike commit_of commit_of (λ e f a. a.body.1) es fs o
-
-own_alike : (s : ℕ) (es fs : List Entry) → OneByOne AlikeEntry es fs → OneByOne IsAlike (commits_by s es) (commits_by s fs)
-own_alike s es fs o =
-    commits_alike (filter (λ (e : Entry). e.session == s) es) (filter (λ (e : Entry). e.session == s) fs)
-    (filtered AlikeEntry (λ (e : Entry). e.session == s) (λ (e : Entry). e.session == s) (λ e f r. λ i. r.session i == s) es fs o)
-
-authors_alike : (es fs : List Entry) (s r : ℕ) → OneByOne AlikeEntry es fs → OneByOne IsAlike (author_list es s r) (author_list fs s r)
-authors_alike es fs s r o =
-    behind IsAlike (commits_in (take r es)) (commits_in (take r fs)) (commits_by s (drop r es)) (commits_by s (drop r fs))
-    (commits_alike (take r es) (take r fs) (taken AlikeEntry r es fs o)) (own_alike s (drop r es) (drop r fs) (dropped AlikeEntry r es fs o))
 
 change_alike : (D : Document) (N M : Intent) (C K : Change) → IsAlike N M → IsEmbedding D N C → IsEmbedding D M K → C ≡ K
 change_alike D N M C K (inl e) i j = one_embedding D M C K (subst (λ (X : Intent). IsEmbedding D X C) e i) j

@@ -20,7 +20,7 @@ use Rattle.st_valid_laws.specs.Taking.{IsTaken}
 use Rattle.st_world.specs.World.{opening_document}
 use Rattle.st_world_laws.proofs.Begun.{opened_start}
 use Rattle.st_world_laws.specs.Worlds.{IsHeader}
-use Rattle.st_one_answers.proofs.OneTaking.{log_back, refused_once, shown_once, taken_once, taken_or_refused}
+use Rattle.st_one_laws.proofs.OneTaking.{log_back, refused_once, shown_once, taken_once, taken_or_refused}
 
 -- two logs that are alike, of valid messages behind one header
 abbrev pub AreOneLog : ReplayState → ReplayState → Type 0

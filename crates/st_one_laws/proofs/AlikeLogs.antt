@@ -17,8 +17,9 @@ use Rattle.st_lists.specs.declared.lists.Transaction.{Transaction}
 use Rattle.st_lists.specs.Clients.{HasReceived, joined_of, next_rev}
 use Rattle.st_lists.specs.Limits.{entries_limit_passed, limit_passed, log_limit_passed, names_limit_passed, own_limit_passed, pending_limit_passed, branches_limit_passed}
 use Rattle.st_lists.specs.Lines.{HasHead, Line, branch_line, branch_of, commits_of, edited_on, has_children, line_of, main_line}
-use Rattle.st_lists.specs.Log.{clashes, commit_in, commit_of, commits_in, connected_after, connected_by, floor, is_connected, known_reference, meets, minimum, own_in_flight, range_in, ranges_in, reference_in, reference_of, sessions_in, uuid_in, waiting, with_reference}
+use Rattle.st_lists.specs.Log.{clashes, commit_in, commit_of, commits_by, commits_in, connected_after, connected_by, floor, is_connected, known_reference, meets, minimum, own_in_flight, range_in, ranges_in, reference_in, reference_of, sessions_in, uuid_in, waiting, with_reference}
 use Rattle.st_lists.specs.Names.{names_in_text, names_made, names_on, names_on_all, unsequenced}
+use Rattle.st_valid.specs.Author.{author_list}
 use Rattle.st_world.specs.World.{HasShown}
 use Rattle.st_same_laws.proofs.CarriedDocuments.{full_same}
 use Rattle.st_one_laws.specs.AlikeWorlds.{AlikeBody, AlikeBranch, AlikeClient, AlikeEntry, AlikeLine, AlikeTransaction, InBoth, IsAlike, OneByOne, bare}
@@ -27,8 +28,19 @@ use Rattle.st_one_laws.proofs.AlikeIntents.{alike_says, lead_alike, names_alike,
 
 -- ## Logs
 
-commits_alike : (es fs : List Entry) → OneByOne AlikeEntry es fs → OneByOne IsAlike (commits_in es) (commits_in fs)
+-- their commits say the same, and so do those over which a session writes
+pub commits_alike : (es fs : List Entry) → OneByOne AlikeEntry es fs → OneByOne IsAlike (commits_in es) (commits_in fs)
 commits_alike es fs o = filter_mapped AlikeEntry IsAlike commit_of commit_of (λ e f a. a.body.1) es fs o
+
+own_alike : (s : ℕ) (es fs : List Entry) → OneByOne AlikeEntry es fs → OneByOne IsAlike (commits_by s es) (commits_by s fs)
+own_alike s es fs o =
+    commits_alike (filter (λ (e : Entry). e.session == s) es) (filter (λ (e : Entry). e.session == s) fs)
+    (filtered AlikeEntry (λ (e : Entry). e.session == s) (λ (e : Entry). e.session == s) (λ e f r. λ i. r.session i == s) es fs o)
+
+pub authors_alike : (es fs : List Entry) (s r : ℕ) → OneByOne AlikeEntry es fs → OneByOne IsAlike (author_list es s r) (author_list fs s r)
+authors_alike es fs s r o =
+    behind IsAlike (commits_in (take r es)) (commits_in (take r fs)) (commits_by s (drop r es)) (commits_by s (drop r fs))
+    (commits_alike (take r es) (take r fs) (taken AlikeEntry r es fs o)) (own_alike s (drop r es) (drop r fs) (dropped AlikeEntry r es fs o))
 
 after_bare : (before : Bool) (b : Body) → connected_after before b ≡ connected_after before (bare b).0
 after_bare before (Join uuid) = refl
@@ -48,7 +60,7 @@ range_bare Leave = refl
 range_bare (Ack reference) = refl
 range_bare (Commit reference ids intent) = refl
 
-uuid_bare : (b : Body) → uuid_in b ≡ uuid_in (bare b).0
+pub uuid_bare : (b : Body) → uuid_in b ≡ uuid_in (bare b).0
 uuid_bare (Join uuid) = refl
 uuid_bare Leave = refl
 uuid_bare (Ack reference) = refl
@@ -77,10 +89,10 @@ connected_one s before e f a =
 reference_alike : (e f : Entry) → AlikeEntry e f → reference_of e ≡ reference_of f
 reference_alike e f a = reference_bare e.n e.body ∙ (λ i. reference_in (a.n i) (a.body.0 i).0) ∙ sym (reference_bare f.n f.body)
 
-connected_alike : (s : ℕ) (es fs : List Entry) → OneByOne AlikeEntry es fs → is_connected s es ≡ is_connected s fs
+pub connected_alike : (s : ℕ) (es fs : List Entry) → OneByOne AlikeEntry es fs → is_connected s es ≡ is_connected s fs
 connected_alike s es fs o = folded AlikeEntry (connected_by s) (connected_by s) (connected_one s) false es fs o
 
-known_alike : (s : ℕ) (es fs : List Entry) → OneByOne AlikeEntry es fs → known_reference s es ≡ known_reference s fs
+pub known_alike : (s : ℕ) (es fs : List Entry) → OneByOne AlikeEntry es fs → known_reference s es ≡ known_reference s fs
 known_alike s es fs o = folded AlikeEntry (with_reference s) (with_reference s) (λ known e f a. λ i. cond (a.session i == s) (max known (reference_alike e f a i)) known) 0 es fs o
 
 pub sessions_alike : (es fs : List Entry) → OneByOne AlikeEntry es fs → sessions_in es ≡ sessions_in fs

@@ -7,5 +7,6 @@ pub mod ActsOfClients
 pub mod StepsOfWorlds
 pub mod AlikeToItself
 pub mod OneMeaning
+pub mod OneTaking
 pub mod LiftedActs
 pub mod ReceivedEntries

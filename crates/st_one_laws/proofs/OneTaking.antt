@@ -1,6 +1,8 @@
 -- A value is taken once: beside logs that are alike it passes the same tests, and leads to logs that are alike.
-use Rattle.std.proofs.Common.{◌≡◌, ◌+◌, ◌==◌, ◌&&◌, ◌||◌, ◌≤◌, nat_le, nat_lt, not, is_some, is_true, ℕ, zero, suc, Bool, true, false, cond, max, List, [], ◌∷◌, ◌++◌, length, take, drop, fold, map, Option, Some, None, IfSome, MatchOption, ◌⊎◌, inl, inr, refl, sym, ap, ◌∙◌, subst, option_and_then, option_map, option_map_or, omega, arith, nat_tests}
+use Rattle.std.proofs.Common.{◌≡◌, ◌+◌, ◌==◌, ◌&&◌, ◌||◌, ◌≤◌, nat_le, nat_lt, not, is_some, ℕ, zero, suc, Bool, true, false, cond, max, List, [], ◌∷◌, ◌++◌, length, take, drop, fold, map, Option, Some, None, IfSome, MatchOption, ◌⊎◌, inl, inr, refl, sym, ap, ◌∙◌, subst, option_and_then, option_map, arith}
 use Rattle.std.specs.List.{filter_map, find, list_any, cons_option}
+use Rattle.std.specs.Option.{option_map_or}
+use Rattle.std.proofs.lemmas.Bool.Decides.{nat_tests}
 use Rattle.serde_json.specs.Data.{Data}
 use Rattle.st_change_reader.specs.Reading.{change_of}
 use Rattle.st_clusters.specs.Free.{is_v4}
@@ -39,7 +41,7 @@ use Rattle.st_msg.specs.Messages.{MessageView, SaidView, message_of}
 use Rattle.st_msg.specs.Messages as told
 use Rattle.st_one_laws.specs.AlikeWorlds.{AlikeBody, AlikeEntry, InBoth, IsAlike, OneByOne, bare}
 use Rattle.st_one_laws.proofs.AlikeIntents.{alike_says, lead_alike, names_alike, rev_alike}
-use Rattle.st_one_laws.proofs.AlikeLogs.{clashes_alike, entries_limit_alike, log_limit_alike, minimum_alike, ranges_alike, sessions_alike}
+use Rattle.st_one_laws.proofs.AlikeLogs.{authors_alike, clashes_alike, commits_alike, connected_alike, entries_limit_alike, known_alike, log_limit_alike, minimum_alike, ranges_alike, sessions_alike, uuid_bare}
 use Rattle.st_one_laws.proofs.OneByOne.{any_same, as_long, behind, filter_mapped, folded, found, taken}
 use Rattle.st_same_laws.proofs.CarriedDocuments.{turned, verdict_same}
 use Rattle.st_same_laws.proofs.RunsOfCommits.{run_same}
@@ -64,7 +66,6 @@ use Rattle.st_valid_laws.specs.Taking.{ComesOut, HasVerdict, IsEnteredAs, IsTake
 use Rattle.st_valid_laws.proofs.OneMeaning.{one_document, one_meaning}
 use Rattle.st_valid_laws.proofs.Readings.{one_reading}
 use Rattle.st_valid_laws.proofs.Standing.{all_stand}
-use Rattle.st_one_answers.proofs.OneMessage.{authors_alike, commits_alike}
 
 -- ## Alike the other way round
 
@@ -87,45 +88,14 @@ log_back [] (f ∷ fs) o = o
 log_back (e ∷ es) [] o = o
 log_back (e ∷ es) (f ∷ fs) o = (entry_back e f o.0, log_back es fs o.1)
 
--- ## What entries tell
-
-connected_bare : (before : Bool) (b : Body) → connected_after before b ≡ connected_after before (bare b).0
-connected_bare before (body.Join uuid) = refl
-connected_bare before body.Leave = refl
-connected_bare before (body.Ack reference) = refl
-connected_bare before (body.Commit reference ids intent) = refl
-
-reference_bare : (n : ℕ) (b : Body) → reference_in n b ≡ reference_in n (bare b).0
-reference_bare n (body.Join uuid) = refl
-reference_bare n body.Leave = refl
-reference_bare n (body.Ack reference) = refl
-reference_bare n (body.Commit reference ids intent) = refl
-
-uuid_bare : (b : Body) → uuid_in b ≡ uuid_in (bare b).0
-uuid_bare (body.Join uuid) = refl
-uuid_bare body.Leave = refl
-uuid_bare (body.Ack reference) = refl
-uuid_bare (body.Commit reference ids intent) = refl
-
 module _ (es fs : List Entry) (o : OneByOne AlikeEntry es fs) where
   -- ## The tests that read the log alone
 
   connected_same : (s : ℕ) → is_connected s es ≡ is_connected s fs
-  connected_same s = folded AlikeEntry (connected_by s) (connected_by s) one false es fs o
-    where
-      one : (before : Bool) (e f : Entry) → AlikeEntry e f → connected_by s before e ≡ connected_by s before f
-      one before e f a =
-          let after : connected_after before e.body ≡ connected_after before f.body = connected_bare before e.body ∙ ap (λ (p : Body × Option IdRange). connected_after before p.0) a.body.0 ∙ sym (connected_bare before f.body) in
-          λ i. cond (a.session i == s) (after i) before
+  connected_same s = connected_alike s es fs o
 
   known_same : (s : ℕ) → known_reference s es ≡ known_reference s fs
-  known_same s = folded AlikeEntry (with_reference s) (with_reference s) one 0 es fs o
-    where
-      told_same : (e f : Entry) → AlikeEntry e f → reference_of e ≡ reference_of f
-      told_same e f a = reference_bare e.n e.body ∙ (λ i. reference_in (a.n i) (a.body.0 i).0) ∙ sym (reference_bare f.n f.body)
-
-      one : (known : ℕ) (e f : Entry) → AlikeEntry e f → with_reference s known e ≡ with_reference s known f
-      one known e f a = λ i. cond (a.session i == s) (max known (told_same e f a i)) known
+  known_same s = known_alike s es fs o
 
   size_same : length es ≡ length fs
   size_same = as_long AlikeEntry es fs o
@@ -288,6 +258,7 @@ module _ (es fs : List Entry) (o : OneByOne AlikeEntry es fs) where
 
 module _ (es fs : List Entry) (o : OneByOne AlikeEntry es fs) where
   keeps_alike : (O : Document) (s r : ℕ) (c : Option Change) → ChangeKeeps O es s r c → ChangeKeeps O fs s r c
+  unfolding meant_alike
   keeps_alike O s r None h = h
   keeps_alike O s r (Some C) h = λ base. (let k = h base in record {
     keeps = λ a. passes_alike es fs o O a.document a.intent (k.keeps (meant_alike fs es (log_back es fs o) O s r C a));
@@ -357,6 +328,7 @@ module _ (O : Document) (es fs : List Entry) (o : OneByOne AlikeEntry es fs) (d 
 module _ (O : Document) (sound : IsSoundInForm O) (made : IsMadeUnder (opening ∷ []) O) (room : HasRoomForNames O) (es fs : List Entry) (valid : IsValidLog O es) (o : OneByOne AlikeEntry es fs) where
   -- what a change says in documents that are one is said alike
   meant_once : (s r : ℕ) (C : Change) → known_reference s es ≤ r → (a : AuthorsIntent O es s r C) (b : AuthorsIntent O fs s r C) → IsAlike a.intent b.intent
+  unfolding meant_alike
   meant_once s r C low a b =
       let fit = ((all_stand O sound made room valid).authors s r low).fit in
       let here : IsSoundInForm a.document = (turn_extends sound fit a.ran).after in
