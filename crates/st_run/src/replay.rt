@@ -140,18 +140,18 @@ fn take_value(
 // Answers a line that follows the header.
 fn take_message(
     alloc: Global,
-    replay: &mut Replay,
+    messages: &mut Replay,
     number: u32,
     line: &[u8],
 ) -> Result<Reply<EndCause>, AllocError>
-    requires stands { Stands replay.old }
+    requires stands { Stands messages.old }
     ensures { IfOk result (λ r. (h : HeaderView) (log : Seq Entry) → IsHeader h
-        → StandsAt replay.old (opening_document h) log
+        → StandsAt messages.old (opening_document h) log
         → IsReply (TakesReplay (opened h log) number line.now)
-        (EndsAt replay (opened h log) number line.now) (IsReplayAt replay.new) r) }
+        (EndsAt replay (opened h log) number line.now) (IsReplayAt messages.new) r) }
 {
     match read_line(alloc, line) {
-        Ok(value) => take_value(alloc, replay, number, &value),
+        Ok(value) => take_value(alloc, messages, number, &value),
         Err(Or::NoMemory) => Err(AllocError),
         Err(Or::Fault(_)) => refuse(alloc, number, BadCause::Json),
     }
