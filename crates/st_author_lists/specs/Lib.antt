@@ -1,1 +1,2 @@
 pub mod Authors
+pub mod KnownChanges
