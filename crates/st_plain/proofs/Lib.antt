@@ -26,3 +26,4 @@ pub mod Stepping
 pub mod Undoing
 pub mod Undone
 pub mod Upgraded
+pub mod Writings

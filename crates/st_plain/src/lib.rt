@@ -12,6 +12,8 @@ mod sessions;
 mod undo_steps;
 mod upgrade_steps;
 mod world;
+mod writing;
 
 pub use laws::{each_step_has_a_next, sound_worlds_are_worlds, worlds_are_small};
 pub use world::{Spent, World};
+pub use writing::Writing;

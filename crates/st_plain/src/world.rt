@@ -446,7 +446,7 @@ impl World {
     }
 
     // The place of the client with a name.
-    fn find(&self, name: &Text) -> Option<usize>
+    pub(crate) fn find(&self, name: &Text) -> Option<usize>
         ensures { result ≡ place_of name.now self.now.lists.clients }
     {
         place_of(self.lists.clients.as_slice(), name.as_str())
