@@ -1,3 +1,4 @@
+pub mod Noting
 pub mod RangesRead
 pub mod StandIns
 pub mod Telling

@@ -1,8 +1,14 @@
 -- What authors tell: kept as the log grows, and the message of a commit.
-use Rattle.std.proofs.Common.{◌≡◌, ◌≤◌, ◌<◌, ◌+◌, ◌-◌, ℕ, Bool, true, false, cond, is_some, IfSome, OnOk, Result, Ok, Err, List, [], ◌∷◌, ◌++◌, length, length-append, take, drop, Option, Some, None, refl, sym, ap, ◌∙◌, subst, arith}
+use Rattle.std.proofs.Common.{◌≡◌, ◌≤◌, ◌<◌, ◌+◌, ◌-◌, ◌==◌, ℕ, Bool, true, false, cond, is_some, IfSome, OnOk, Result, Ok, Err, List, [], ◌∷◌, ◌++◌, length-append, take, drop, Option, Some, None, append-nil, refl, sym, ap, ◌∙◌, subst, arith}
 use Rattle.std.specs.BTreeMap.{get}
 use Rattle.std.specs.List.{slice_get}
 use Rattle.std.specs.Ordering.{is_eq, nat_cmp}
+use Rattle.std.proofs.lemmas.Bool.Decides.{nat_tests}
+use Rattle.st_ids.specs.Order.{rev_cmp}
+use Rattle.st_known_changes.specs.Known.{IsChangeOver, IsKnownText}
+use Rattle.st_entry_texts.specs.KnownChanges.{AreKnownIn, IsKept, told_at, told_of}
+use Rattle.st_entry_texts.specs.declared.known.Known.{Known}
+use Rattle.st_entry_texts.specs.declared.known.KnownChanges.{KnownChanges}
 use Rattle.st_ids.proofs.Orders.{is_eq_equal}
 use Rattle.std.proofs.lemmas.Map.Lookups.{exact_unsigned}
 use Rattle.std.proofs.lemmas.List.{take-append-drop, take-append-le, take-take}
@@ -36,7 +42,7 @@ use Rattle.st_msg.specs.Messages.{Commit, MessageView, SaidView, is_upgrade, mes
 use Rattle.st_texts.specs.Names.{names_seen}
 use Rattle.st_texts.specs.Texts.{IsCommitSaid, IsMessageOf, IsSaid}
 use Rattle.st_valid.specs.Author.{author_list, generated_with}
-use Rattle.st_entry_texts.specs.Authors.{AreAuthorsOf, CanTell, IsAuthor, MayTell}
+use Rattle.st_entry_texts.specs.Authors.{AreAuthorsOf, CanTell, IsAuthor, MayTell, MayTellCommit}
 use Rattle.st_entry_texts.specs.Numbered.{IsNumberedTo}
 use Rattle.st_entry_texts.specs.declared.entry.Author.{Author}
 use Rattle.st_entry_texts.specs.declared.entry.Authors.{Authors}
@@ -100,6 +106,47 @@ commit_told O log d k s r n min ids N C old new less leads embeds e = (
   e ∙ ap (λ names. old ++ compact_text (said_data n min s (Commit r ids (change_data names C)))) (names_front log k s r ids less),
 )
 
+-- a change that is known is told in the same way
+pub known_told : (O : Document) (log : List Entry) (k s r n min : ℕ) (ids : IdRange) (N : Intent) (C : Change) (old new : List ℕ) → r ≤ k → IsChangeOver O (author_list (take k log) s r) N C
+    → new ≡ old ++ compact_text (said_data n min s (Commit r ids (change_data (names_seen log s r ids) C)))
+    → (said : SaidView) × IsCommitSaid O (take k log) s r ids N said × (new ≡ old ++ compact_text (said_data n min s said))
+known_told O log k s r n min ids N C old new less over e = (
+  Commit r ids (change_data (names_seen (take k log) s r ids) C),
+  record { author = over.author; stands = over.stands; change = C; embeds = over.embeds; is = refl },
+  e ∙ ap (λ names. old ++ compact_text (said_data n min s (Commit r ids (change_data names C)))) (names_front log k s r ids less),
+)
+
+-- it may tell a commit of which nothing is known too
+pub unknown : (O : Document) (log : List Entry) (before s r : ℕ) (N : Intent) (known : Option Change) (a : Author) → MayTellCommit O log before s r N known a → MayTellCommit O log before s r N None a
+unknown O log before s r N known a may = record { is = may.is; fit = may.fit; told = λ C e. absurd (cc) }
+
+-- an author that only reads on is one still
+pub read_on : (O : Document) (log : List Entry) (s r : ℕ) (old new : Author) → new.doc ≡ old.doc → IsNumberedTo log r new.numbers → IsAuthor O log s old → IsAuthor O log s new
+read_on O log s r old new same numbers is = record {
+  doc = subst (IsAuthorOf O log s) (sym same) is.doc;
+  numbers = subst (λ n. IsNumberedTo log n new.numbers) (sym numbers.read) numbers;
+}
+
+-- what is known of a commit of the log is its change over the author's list
+pub known_of_entry : (O : Document) (log : List Entry) (x : KnownChanges) (i : ℕ) (e : Entry) (reference : ℕ) (ids : IdRange) (N : Intent) (C : Change) → AreKnownIn O log x → slice_get log i ≡ Some e → e.body ≡ body.Commit reference ids N
+    → told_of x reference N ≡ Some C → IsChangeOver O (author_list (take i log) e.session reference) N C
+known_of_entry O log x i e reference ids N C all there is told = go (get rev_cmp x.map N.rev) refl told
+  where
+    A : List Intent
+    A = author_list (take i log) e.session reference
+
+    at : (k : Known) (b : Bool) → (k.reference == reference) ≡ b → IsKept x N.rev k → cond b (Some k.change) None ≡ Some C → IsChangeOver O A N C
+    at k false e q t = cc
+    at k true same q t =
+        let number : reference ≡ k.reference = grind (arith, nat_tests, same) in
+        let change : k.change ≡ C = cc in
+        let text : IsKnownText O (take i log) e.session [] N.rev k.reference k.change (body.Commit reference ids N) = subst (IsKnownText O (take i log) e.session [] N.rev k.reference k.change) is (all N.rev k q i e there) in
+        subst (IsChangeOver O A N) change (subst (λ Ns. IsChangeOver O Ns N k.change) (append-nil A) (text refl number))
+
+    go : (o : Option Known) → get rev_cmp x.map N.rev ≡ o → told_at reference o ≡ Some C → IsChangeOver O A N C
+    go None q t = cc
+    go (Some k) q t = at k (k.reference == reference) refl q t
+
 -- ## One that has read nothing yet
 
 pub starts : (O : Document) (log : List Entry) (s : ℕ) (a : Author) → IsAuthorOf O log s a.doc → IsNumberedTo log 0 a.numbers → IsAuthor O log s a
@@ -149,7 +196,7 @@ upgrade_told n C = go C.schema
     go None = refl
     go (Some text) = refl
 
-on_ok : {T E P Q : Type 0} (r : Result T E) → (P → Q) → OnOk r P → OnOk r Q
+pub on_ok : {T E P Q : Type 0} (r : Result T E) → (P → Q) → OnOk r P → OnOk r Q
 on_ok (Ok x) f h = f h
 on_ok (Err e) f h = tt
 

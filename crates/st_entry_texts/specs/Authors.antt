@@ -1,14 +1,16 @@
 -- What is kept of the authors of a log's commits.
-use Rattle.std.specs.Prelude.{◌≡◌, ◌≤◌, ◌+◌, ℕ, List, [], ◌∷◌, ◌++◌, Some, length, slice_get, take}
+use Rattle.std.specs.Prelude.{◌≡◌, ◌≤◌, ◌+◌, ℕ, List, [], ◌∷◌, ◌++◌, Option, Some, slice_get, take}
 use Rattle.std.specs.BTreeMap.{get}
 use Rattle.std.specs.Ordering.{nat_cmp}
 use Rattle.st_author_docs.specs.Authors.{IsAuthorOf}
 use Rattle.st_clusters.specs.declared.ids.IdRange.{IdRange}
 use Rattle.st_doc.specs.Doc.{document_of}
+use Rattle.st_known_changes.specs.Known.{IsChangeOver}
 use Rattle.st_lists.specs.declared.lists.Body.TheVariants.{Commit}
 use Rattle.st_lists.specs.declared.lists.Entry.{Entry}
 use Rattle.st_log_laws.specs.Turns.{FitInTurn}
 use Rattle.st_marks.specs.Document.{Document, IsSoundInForm}
+use Rattle.st_marks.specs.declared.changes.Change.{Change}
 use Rattle.st_marks.specs.declared.intents.Intent.{Intent}
 use Rattle.st_valid.specs.Author.{author_list}
 use Rattle.st_entry_texts.specs.Numbered.{IsNumberedTo}
@@ -32,6 +34,13 @@ pub record MayTell (log : List Entry) (before session reference : ℕ) (a : Auth
   pub opening : Document
   pub is : IsAuthor opening log session a
   pub fit : FitInTurn opening (author_list (take before log) session reference)
+
+-- it may tell a commit there: that can be carried out behind the author's list, and a change that is known of it is that over the
+-- list
+pub record MayTellCommit (O : Document) (log : List Entry) (before session reference : ℕ) (N : Intent) (known : Option Change) (a : Author) : Type 0 where
+  pub is : IsAuthor O log session a
+  pub fit : FitInTurn O (author_list (take before log) session reference ++ N ∷ [])
+  pub told : (C : Change) → known ≡ Some C → IsChangeOver O (author_list (take before log) session reference) N C
 
 -- what is kept by each session is its own, in a log that opens with the document that is kept
 pub record AreAuthorsOf (log : List Entry) (x : Authors) : Type 0 where

@@ -1,2 +1,3 @@
 pub mod Authors
+pub mod KnownChanges
 pub mod Numbered

@@ -2,7 +2,9 @@
 #![tactic(auto)]
 
 mod entry;
+mod known;
 mod numbers;
 
 pub use entry::{Author, Authors};
+pub use known::{Known, KnownChanges};
 pub use numbers::Numbers;

@@ -1,5 +1,5 @@
 -- What a client shows where it is about to write.
-use Rattle.std.proofs.Common.{◌≡◌, ℕ, true, false, Bool, Ok, Some, None, Option, List, is_some, refl, sym, ap, ◌∙◌, subst}
+use Rattle.std.proofs.Common.{◌≡◌, ℕ, true, false, Ok, Some, None, Option, is_some, refl, sym, ap, ◌∙◌, subst}
 use Rattle.std.specs.BTreeMap.{get}
 use Rattle.std.specs.List.{slice_get}
 use Rattle.std.specs.Option.{option_and_then}
@@ -10,7 +10,7 @@ use Rattle.st_edits.specs.Resolve.{resolve}
 use Rattle.st_edits.specs.declared.names.NameCounters.{NameCounters}
 use Rattle.st_heads.specs.declared.replica.Replica.{Replica}
 use Rattle.st_known_changes.specs.Writing.{IsWriting}
-use Rattle.st_lists.specs.Clients.{client_named, joined_of, place_of}
+use Rattle.st_lists.specs.Clients.{joined_of, place_of}
 use Rattle.st_lists.specs.Lines.{main_line}
 use Rattle.st_lists.specs.declared.lists.Client.{Client}
 use Rattle.st_lists.specs.declared.lists.Transaction.{Transaction}

@@ -2,7 +2,7 @@ use Rattle.std.proofs.Common.{◌-◌, refl}
 use Rattle.st_doc.specs.Doc.{document_of}
 use Rattle.st_lists.specs.declared.lists.Body.TheVariants as body
 use Rattle.st_msg.specs.Messages.{Ack, Join, Leave}
-use Rattle.st_entry_texts.proofs.Telling.{commit_said, plain_told}
+use Rattle.st_entry_texts.proofs.Telling.{commit_said, known_of_entry, plain_told}
 use Rattle.st_entry_texts.proofs.entry.Authors.push_message.Goals as goal
 
 pub push_commit_of-requires-clause-known : goal.push_commit_of-requires-clause-known
@@ -10,6 +10,10 @@ push_commit_of-requires-clause-known c = (c.requires.fit (c.args.n - 1) c.entry_
 
 pub push_commit_of-requires-clause-fit : goal.push_commit_of-requires-clause-fit
 push_commit_of-requires-clause-fit c = (c.requires.fit (c.args.n - 1) c.entry_of-entry.result.now c.in-Commit.reference c.in-Commit.ids c.in-Commit.intent c.entry_of-entry.ensures c.in-Commit.is).fit
+
+pub push_commit_of-requires-clause-told : goal.push_commit_of-requires-clause-told
+push_commit_of-requires-clause-told c = λ C told.
+    known_of_entry (document_of c.args.self.now.opening) c.args.log.now c.args.self.now.known (c.args.n - 1) c.entry_of-entry.result.now c.in-Commit.reference c.in-Commit.ids c.in-Commit.intent C c.requires.known c.entry_of-entry.ensures c.in-Commit.is told
 
 pub returns-in-Join-clause-told : goal.returns-in-Join-clause-told
 returns-in-Join-clause-told c =
