@@ -11,7 +11,10 @@ use Rattle.st_clusters.specs.declared.ids.IdRange.{IdRange}
 use Rattle.st_doc.specs.Doc.{document_of}
 use Rattle.st_entry_texts.specs.Authors.{AreAuthorsOf, FitWhereWritten}
 use Rattle.st_entry_texts.specs.Numbered.{HasFewIds}
+use Rattle.st_entry_texts.specs.KnownChanges.{AreKnownIn, IsKept}
 use Rattle.st_entry_texts.specs.declared.entry.Authors.{Authors}
+use Rattle.st_entry_texts.specs.declared.known.Known.{Known}
+use Rattle.st_ids.specs.declared.names.Rev.{Rev}
 use Rattle.st_ids.specs.Listing.{Has}
 use Rattle.st_lists.specs.Log.{minimum, range_of, ranges_in}
 use Rattle.st_lists.specs.declared.lists.Entry.{Entry}
@@ -92,8 +95,12 @@ module _ (k : ℕ) (world : World) (o : Option Authors) (h : HeaderView) (w : Wo
 pub message_as : (h : HeaderView) (w : WorldState) (x : Authors) (log : List Entry) (n : ℕ) (m : MessageView) → log ≡ w.log → IsKeptFor h w x → IsMessageOf (document_of x.opening) log n m → IsMessageOf (opening_document h) w.log n m
 message_as h w x log n m told kept is = subst (λ es. IsMessageOf (opening_document h) es n m) told (subst (λ O. IsMessageOf O log n m) kept.0 is)
 
-pub kept_as : (h : HeaderView) (w : WorldState) (x y : Authors) (log : List Entry) → log ≡ w.log → IsKeptFor h w x → y.opening ≡ x.opening → AreAuthorsOf log y → IsKeptFor h w y
-kept_as h w x y log told kept same are = (ap (λ d. document_of d) same ∙ kept.0, subst (λ es. AreAuthorsOf es y) told are)
+pub kept_as : (h : HeaderView) (w : WorldState) (x y : Authors) (log : List Entry) → log ≡ w.log → IsKeptFor h w x → y.opening ≡ x.opening → AreAuthorsOf log y → ((r : Rev) (k : Known) → IsKept y.known r k → IsKept x.known r k) → IsKeptFor h w y
+kept_as h w x y log told kept same are known = (ap (λ d. document_of d) same ∙ kept.0, subst (λ es. AreAuthorsOf es y) told are, λ r k there. kept.2 r k (known r k there))
+
+-- what is known of changes is known of the log
+pub known_as : (h : HeaderView) (w : WorldState) (x : Authors) (log : List Entry) → log ≡ w.log → IsKeptFor h w x → AreKnownIn (document_of x.opening) log x.known
+known_as h w x log told kept = subst (λ D. AreKnownIn D log x.known) (sym kept.0) (subst (λ es. AreKnownIn (opening_document h) es x.known) (sym told) (λ r k there. (kept.2 r k there).logged))
 
 pub least_as : (o : Option ℕ) (min n : ℕ) (w : WorldState) (log : List Entry) → log ≡ w.log → o ≡ Some (minimum (take n w.log)) → o ≡ Some min → min ≡ minimum (take n log)
 least_as o min n w log told is at =

@@ -1,14 +1,30 @@
 -- Replies to the lines of a trace.
-use Rattle.std.proofs.Common.{◌≡◌, false, true, inl, inr, ℕ, ◌+◌, ◌≤◌, List, [], Option, Some, None, Ok, Err, refl, sym, ◌∙◌, ap, subst, arith}
+use Rattle.std.proofs.Common.{◌≡◌, false, true, inl, inr, ℕ, ◌+◌, ◌≤◌, List, [], ◌++◌, Option, Some, None, Result, Ok, Err, refl, sym, ◌∙◌, ap, subst, arith}
 use Rattle.std.specs.Option.{IfSome}
 use Rattle.st_json.specs.declared.fault.BadCause.{BadCause}
+use Rattle.st_author_lists.specs.KnownChanges.{IsKnownChange}
 use Rattle.st_author_lists.proofs.Going.{authors_next}
+use Rattle.st_author_lists.proofs.KnownGoing.{known_next}
+use Rattle.st_author_lists.proofs.KnownWriting.{known_written}
 use Rattle.st_author_lists.proofs.Written.{begun_authors}
 use Rattle.st_carried_ids.specs.CarriedIds.{CarryFew}
 use Rattle.st_carried_ids.proofs.Few.{few_next}
 use Rattle.st_carried_ids.proofs.LogSteps.{log_grown}
 use Rattle.st_entry_texts.specs.Authors.{AreAuthorsOf}
+use Rattle.st_doc.specs.Doc.{document_of}
+use Rattle.st_edits.specs.declared.names.NameCounters.{NameCounters}
 use Rattle.st_entry_texts.specs.declared.entry.Authors.{Authors}
+use Rattle.st_entry_texts.specs.declared.known.Known.{Known}
+use Rattle.st_entry_texts.specs.declared.known.KnownChanges.{KnownChanges}
+use Rattle.st_ids.specs.declared.names.Rev.{Rev}
+use Rattle.st_known_changes.specs.Writing.{IsWriting}
+use Rattle.st_marks.specs.Document.{Document}
+use Rattle.st_marks.specs.Embedding.{IsEmbedding}
+use Rattle.st_marks.specs.declared.changes.Change.{Change}
+use Rattle.st_marks.specs.declared.intents.Intent.{Intent}
+use Rattle.st_schema.specs.Schema.{SchemaView}
+use Rattle.st_told_edits.specs.Told.{IsToldOf}
+use Rattle.st_tree.specs.declared.edit.EditFault.{EditFault}
 use Rattle.st_entry_texts.proofs.Telling.{authors_stay}
 use Rattle.st_lists.specs.Clients.{empty_state}
 use Rattle.st_lists.specs.declared.lists.Entry.{Entry}
@@ -21,20 +37,19 @@ use Rattle.st_plain.specs.declared.world.World.{World}
 use Rattle.st_plain.proofs.Standing.{stands_for_world, stands_small}
 use Rattle.st_script.specs.AnswerText.{answer_line}
 use Rattle.st_script.specs.Header.{HeaderView}
-use Rattle.st_script.proofs.Fits.{line_fits}
 use Rattle.st_script.specs.Line.{step_of_line}
-use Rattle.st_script.specs.Steps.{StepView}
+use Rattle.st_script.specs.Steps.{EditView, IsActWithin, IsEditWithin, IsWithinLimits, StepView}
 use Rattle.st_script.specs.declared.answer.Answer.{Answer}
-use Rattle.st_world.specs.World.{IsNext, opening_document}
+use Rattle.st_world.specs.World.{IsNext, intent_of, opening_document}
 use Rattle.st_world_laws.specs.Worlds.{IsWorld, KeepsRules}
 use Rattle.st_answers.specs.Meaning.{EndsAt, FailsAt, FinishesAt}
 use Rattle.st_answers.specs.declared.cause.EndCause.{EndCause}
 use Rattle.st_answers.specs.declared.cause.EndCause.TheVariants as why
 use Rattle.st_answers.specs.Trace.{IsEntryTold, TakesTrace, TraceState, entry_asked, opened, trace, unopened}
+use Rattle.st_run.specs.declared.trace.NewChange.{NewChange}
 use Rattle.st_run.specs.declared.trace.Tracing.{Tracing}
 use Rattle.st_run.specs.inside.Replies.{IsRefusal, IsTelling}
-use Rattle.st_run.specs.inside.Standing.{GoesOn, IsKeptFor, IsOpened, IsOpenedBy, IsOpenedIn, IsStepReply, IsUnderWay, StandsForTrace, TellsTexts}
-use Rattle.st_run.proofs.Deciding.{fits_rules}
+use Rattle.st_run.specs.inside.Standing.{AreKnown, GoesOn, HasNoted, IsKeptFor, IsNewChange, IsNewFor, IsToldBefore, IsOpened, IsOpenedBy, IsOpenedIn, IsStepReply, IsUnderWay, StandsForTrace, TellsTexts}
 use Rattle.st_run.proofs.Replying.{ends_badly, ends_well, refused, reply_as, told_so}
 
 -- ## Steps
@@ -44,34 +59,92 @@ pub step_told : (h : HeaderView) (w : WorldState) (s : StepView) (After : WorldS
 step_told h w s After a (Goes text) next is = (a, next.0, next.1, is, next.2)
 step_told h w s After a (Ends text e) next is = absurd is
 
--- what is kept of authors is kept as the log grows
-kept_on : (h : HeaderView) (w v : WorldState) (x : StepView) (a : Answer) (o : Option Authors) → IsNext h w x v a → IfSome o (IsKeptFor h w) → IfSome o (IsKeptFor h v)
-kept_on h w v x a None next kept = tt
-kept_on h w v x a (Some authors) next kept =
-    let grown = log_grown h w v x a next in
-    (kept.0, subst (λ (l : List Entry). AreAuthorsOf l authors) (sym grown.1) (authors_stay w.log grown.0 authors kept.1))
+-- ## Changes that steps write
+
+-- a list of authors is of the same log with other changes known
+other_changes : (log : List Entry) (x : Authors) (known : KnownChanges) → AreAuthorsOf log x → AreAuthorsOf log (record x { known = known })
+other_changes log x known is = record { sound = is.sound; each = is.each }
+
+-- what is kept of authors is kept as the log grows, and so are the changes that are known, with the one that is written
+kept_next : (h : HeaderView) (w v : WorldState) (x : StepView) (a : Answer) (told : Option NewChange) (o p : Option Authors) → IsWorld h w → KeepsRules x.act → IsNext h w x v a → ((new : NewChange) → told ≡ Some new → IsToldBefore h w x new.received new.change)
+    → HasNoted told a o p → IfSome o (IsKeptFor h w) → IfSome p (IsKeptFor h v)
+kept_next h w v x a told None p world rules next is noted kept = subst (λ (q : Option Authors). IfSome q (IsKeptFor h v)) (sym noted) tt
+kept_next h w v x a told (Some y) None world rules next is noted kept = absurd noted
+kept_next h w v x a told (Some y) (Some z) world rules next is noted kept = (ap (λ (q : Authors). document_of q.opening) noted.0 ∙ kept.0, subst (AreAuthorsOf v.log) (sym noted.0) (other_changes v.log y z.known more), known)
+  where
+    grown : (es : List Entry) × (v.log ≡ w.log ++ es)
+    grown = log_grown h w v x a next
+
+    more : AreAuthorsOf v.log y
+    more = subst (λ (l : List Entry). AreAuthorsOf l y) (sym grown.1) (authors_stay w.log grown.0 y kept.1)
+
+    fresh : (r : Rev) (k : Known) → IsNewChange told a r k → IsKnownChange h v r k.reference k.change
+    fresh r k (new, some, accepted, rev, change) =
+        let t = is new some in
+        let written = known_written h w v x a new.received t.document t.schema t.given t.edit t.writes t.intent t.means next accepted new.change world t.embeds in
+        subst (λ (q : Known). IsKnownChange h v r q.reference q.change) (sym change) (subst (λ (q : Rev). IsKnownChange h v q new.received new.change) (sym rev) written)
+
+    known : AreKnown h v z.known
+    known r k there = elim (noted.1 r k there) [ inl was ↦ known_next h w v x a r k.reference k.change world rules (kept.2 r k was) next | inr new ↦ fresh r k new ]
+
+-- nothing is noted
+pub same_noted : (told : Option NewChange) (a : Answer) (o : Option Authors) → HasNoted told a o o
+same_noted told a None = refl
+same_noted told a (Some x) = (refl, λ r k there. inl there)
+
+-- of a change that is told of an edit there is the intent
+told_intent : (D : Document) (r : Result Intent EditFault) (C : Change) → IsToldOf D r (Some C) → (N : Intent) × (r ≡ Ok N) × IsEmbedding D N C
+told_intent D (Ok N) C x = (N, refl, x)
+told_intent D (Err f) C x = absurd x
+
+some_as : {X : Type 0} (o : Option X) (P Q : X → Type 0) → ((x : X) → P x → Q x) → IfSome o P → IfSome o Q
+some_as None P Q f h = tt
+some_as (Some x) P Q f h = f x h
+
+pub if_some : {X : Type 0} (o : Option X) (P : X → Type 0) → IfSome o P → (x : X) → o ≡ Some x → P x
+if_some o P h x e = subst (λ q. IfSome q P) e h
+
+module _ (world : World) (s : StepView) (n : ℕ) (D : Document) (schema : SchemaView) (given : NameCounters) (e : EditView) (is : (k : ℕ) (h : HeaderView) (w : WorldState) → Stands k world h w → IsWriting h w s n D schema given e) where
+  module _ (goes : GoesOn world) where
+    here : IsWriting goes.1 goes.2 s n D schema given e
+    here = is goes.0 goes.1 goes.2 goes.3
+
+    pub writes_within : IsWithinLimits s → IsEditWithin e
+    writes_within form = subst IsActWithin here.act form
+
+    pub no_nodes : given.nodes ≡ 0
+    no_nodes = ap (λ (g : NameCounters). g.nodes) here.names
+
+    pub no_cells : given.cells ≡ 0
+    no_cells = ap (λ (g : NameCounters). g.cells) here.names
+
+  pub new_told : (o : Option NewChange) → IfSome o (λ (new : NewChange). (new.received ≡ n) × IsToldOf D (intent_of D schema given e) (Some new.change)) → IfSome o (IsNewFor world s)
+  new_told o = some_as o (λ (new : NewChange). (new.received ≡ n) × IsToldOf D (intent_of D schema given e) (Some new.change)) (IsNewFor world s) (λ new told k h w st.
+      let t = told_intent D (intent_of D schema given e) new.change told.1 in
+      record { document = D; schema = schema; given = given; edit = e; writes = subst (λ m. IsWriting h w s m D schema given e) (sym told.0) (is k h w st); intent = t.0; means = t.1; embeds = t.2 })
 
 -- a step leads on
-pub under_way_next : (h : HeaderView) (w v : WorldState) (x : StepView) (a : Answer) (k : ℕ) (old new : World) (o : Option Authors) → IsUnderWay k old o h w → KeepsRules x.act → IsNext h w x v a → Stands (k + 1) new h v → IsUnderWay (k + 1) new o h v
-under_way_next h w v x a k old new o u rules next stands =
+pub under_way_next : (h : HeaderView) (w v : WorldState) (x : StepView) (a : Answer) (k : ℕ) (old new : World) (told : Option NewChange) (o p : Option Authors) → IsUnderWay k old o h w → KeepsRules x.act → IsNext h w x v a → Stands (k + 1) new h v
+    → IfSome told (IsNewFor old x) → HasNoted told a o p → IsUnderWay (k + 1) new p h v
+under_way_next h w v x a k old new told o p u rules next stands is noted =
     let world : IsWorld h w = stands_for_world k old h w u.stands in
     let few : CarryFew k v.log = few_next h w v x a k world (stands_small k old h w u.stands).ids u.few next in
     record {
       stands = stands;
       fit = authors_next h w v x a world u.fit rules next;
       few = λ s. omega (arith, few s);
-      kept = kept_on h w v x a o next u.kept;
+      kept = kept_next h w v x a told o p world rules next (λ n some. if_some told (IsNewFor old x) is n some k h w u.stands) noted u.kept;
     }
 
 -- a line that is a step
-pub step_replied : (h : HeaderView) (w : WorldState) (s : StepView) (k n : ℕ) (old world : World) (o : Option Authors) (line : List ℕ) (r : Reply EndCause) → step_of_line line ≡ Ok s → IsUnderWay k old o h w → IsStepReply h w s (λ v. Stands (k + 1) world h v) r
+pub step_replied : (h : HeaderView) (w : WorldState) (s : StepView) (k n : ℕ) (world : World) (o : Option Authors) (line : List ℕ) (r : Reply EndCause) → step_of_line line ≡ Ok s → IsStepReply h w s (λ v. IsUnderWay (k + 1) world o h v) r
     → IsReply (TakesTrace (opened h w) n line) (EndsAt trace (opened h w) n line) (IsOpenedBy (k + 1) world o) r
-step_replied h w s k n old world o line (Goes text) is u (a, v, next, told, after) = (
+step_replied h w s k n world o line (Goes text) is (a, v, next, told, after) = (
   opened h v,
   inl (record { step = s; answer = a; world = v; is = is; next = next; told = told; state = refl }),
-  (k + 1, omega arith, under_way_next h w v s a k old world o u (fits_rules s.branch s.act (line_fits line s is).1) next after),
+  (k + 1, omega arith, after),
 )
-step_replied h w s k n old world o line (Ends text e) is u x = absurd x
+step_replied h w s k n world o line (Ends text e) is x = absurd x
 
 -- a line that asks for the text of an entry
 pub text_replied : (h : HeaderView) (w : WorldState) (k n entry : ℕ) (cause : BadCause) (world : World) (o : Option Authors) (line told : List ℕ) (r : Reply EndCause) → step_of_line line ≡ Err cause → entry_asked line ≡ Some entry

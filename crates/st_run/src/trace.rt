@@ -1,17 +1,26 @@
 //! The answers to the lines of a trace.
-ghost use Rattle.std.specs.Prelude.{◌≡◌, ℕ, ◌+◌, Ok, Err, IfOk, codes};
+ghost use Rattle.std.specs.Prelude.{◌≡◌, ◌<◌, ◌^◌, ℕ, ◌+◌, Some, Ok, Err, IfOk, IfSome, OnOk, codes};
+ghost use Rattle.st_author_lists.specs.KnownChanges.{is_no};
+ghost use Rattle.st_doc.specs.Doc.{document_of};
+ghost use Rattle.st_edits.specs.Resolve.{IsWithin};
 ghost use Rattle.st_ids.specs.Or.{IfRefused};
+ghost use Rattle.st_marks.specs.Document.{IsSoundInForm};
+ghost use Rattle.st_marks.specs.Intent.{Fits};
+ghost use Rattle.st_marks.specs.declared.intents.Intent.{Intent as Meant};
 ghost use Rattle.st_script.specs.Header.{HeaderView, header_line};
 ghost use Rattle.st_script.specs.Line.{step_of_line, line_view};
-ghost use Rattle.st_script.specs.Steps.{step_view, IsWithinLimits};
+ghost use Rattle.st_script.specs.Steps.{edit_view, step_view, IsWithinLimits};
 ghost use Rattle.st_lists.specs.Clients.{empty_state};
 ghost use Rattle.st_lists.specs.declared.lists.WorldState.{WorldState};
 ghost use Rattle.st_pieces.specs.Told.{IsReply};
 ghost use Rattle.st_plain.specs.Stands.{Stands};
-ghost use Rattle.st_world.specs.World.{IsNext};
+ghost use Rattle.st_told_edits.specs.Told.{IsToldOf};
+ghost use Rattle.st_world.specs.Edits.{edit_of};
+ghost use Rattle.st_world.specs.World.{IsNext, intent_of};
+ghost use Rattle.st_world_laws.specs.Worlds.{KeepsRules};
 ghost use Rattle.st_answers.specs.Meaning.{EndsAt, FailsAt, FinishesAt};
 ghost use Rattle.st_answers.specs.Trace.{TraceState, TakesTrace, trace, unopened, opened};
-ghost use Rattle.st_run.specs.inside.Standing.{GoesOn, IsOpened, IsOpenedBy, IsOpenedIn, IsStepReply, IsUnderWay, StandsForTrace, TellsTexts};
+ghost use Rattle.st_run.specs.inside.Standing.{GoesOn, HasNoted, IsNewFor, IsOpened, IsOpenedBy, IsOpenedIn, IsStepReply, IsUnderWay, StandsForTrace, TellsTexts};
 
 use crate::reply::{refuse, tell, tell_header, tell_nothing};
 use crate::text::{entry_asked, tell_entry};
@@ -19,9 +28,11 @@ use st_answers::EndCause;
 use st_entry_texts::Authors;
 use st_ids::Or;
 use st_json::BadCause;
+use st_marks::Change;
 use st_pieces::{Reply, Responder};
-use st_plain::World;
+use st_plain::{World, Writing};
 use st_script::{Answer, Line, TraceStep, answer_line, read_header as header_of, read_step_line};
+use st_told_edits::told_of_edit;
 use std::alloc::{AllocError, Global};
 
 /// A trace that is answered: its world, once a header has opened one, and what is kept of the authors of its log, once a text
@@ -30,6 +41,13 @@ use std::alloc::{AllocError, Global};
 pub struct Tracing {
     pub world: Option<World>,
     pub authors: Option<Authors>,
+}
+
+/// The change that a step is about to write, and how many entries its client received.
+#[derive(Drop)]
+pub struct NewChange {
+    pub received: u32,
+    pub change: Change,
 }
 
 // Makes a step of a world that isn't spent.
@@ -47,18 +65,128 @@ pub fn make_step(alloc: Global, world: &mut World, step: &TraceStep) -> Result<A
     }
 }
 
+// The change of the commit that an edit is about to write, if it has one.
+fn told_of(alloc: Global, writing: Writing) -> Result<Option<NewChange>, AllocError>
+    requires within { IsWithin (edit_of writing.edit.now) }
+    requires nodes { writing.given.nodes < 2 ^ 31 }
+    requires cells { writing.given.cells < 2 ^ 31 }
+    requires sound { IsSoundInForm (document_of writing.doc.now) }
+    requires fits { (N : Meant) → intent_of (document_of writing.doc.now) writing.schema.now writing.given (edit_view writing.edit.now) ≡ Ok N
+        → Fits (document_of writing.doc.now) N }
+    ensures { IfOk result (λ o. IfSome o (λ new. (new.received ≡ writing.received)
+        × IsToldOf (document_of writing.doc.now) (intent_of (document_of writing.doc.now) writing.schema.now writing.given (edit_view writing.edit.now)) (Some new.change))) }
+{
+    let told = told_of_edit(
+        alloc,
+        writing.doc,
+        writing.schema,
+        writing.given,
+        writing.edit,
+    )?;
+    let received = writing.received;
+    match told {
+        None => Ok(None),
+        Some(change) => Ok(Some(NewChange { received, change })),
+    }
+}
+
+// The change of the commit that a step is about to write, if it is an edit by which that is known.
+fn change_before(
+    alloc: Global,
+    world: &World,
+    step: &TraceStep,
+) -> Result<Option<NewChange>, AllocError>
+    requires goes { GoesOn world.now }
+    requires form { IsWithinLimits (step_view step.now) }
+    ensures { IfOk result (λ o. IfSome o (IsNewFor world.now (step_view step.now))) }
+{
+    match world.writing(step) {
+        None => Ok(None),
+        Some(writing) => told_of(alloc, writing),
+    }
+}
+
+// The same, once a text was asked for.
+fn told_before(
+    alloc: Global,
+    world: &World,
+    authors: &Option<Authors>,
+    step: &TraceStep,
+) -> Result<Option<NewChange>, AllocError>
+    requires goes { GoesOn world.now }
+    requires form { IsWithinLimits (step_view step.now) }
+    ensures { IfOk result (λ o. IfSome o (IsNewFor world.now (step_view step.now))) }
+{
+    if authors.is_none() {
+        return Ok(None);
+    }
+    change_before(alloc, world, step)
+}
+
+// Whether an answer is a refusal.
+fn is_no(answer: &Answer) -> bool
+    ensures { result ≡ is_no answer.now }
+{
+    match answer {
+        Answer::No(_) => true,
+        _ => false,
+    }
+}
+
+// Takes note of a change that was told before a step, once that is answered and not refused.
+fn note(
+    alloc: Global,
+    authors: &mut Option<Authors>,
+    told: Option<NewChange>,
+    answer: &Answer,
+) -> Result<(), AllocError>
+    ensures { OnOk result (HasNoted told answer.now authors.old authors.new) }
+{
+    let Some(new) = told else {
+        return Ok(());
+    };
+    if is_no(answer) {
+        return Ok(());
+    }
+    match authors {
+        None => Ok(()),
+        Some(authors) => authors.know(alloc, new.received, new.change),
+    }
+}
+
+// Makes a step, and takes note of the change that it writes.
+fn make_told_step(
+    alloc: Global,
+    world: &mut World,
+    authors: &mut Option<Authors>,
+    step: &TraceStep,
+) -> Result<Answer, AllocError>
+    requires goes { GoesOn world.old }
+    requires form { IsWithinLimits (step_view step.now) }
+    requires rules { KeepsRules (step_view step.now).act }
+    ensures { IfOk result (λ a. (k : ℕ) (h : HeaderView) (w : WorldState) → IsUnderWay k world.old authors.old h w
+        → (v : WorldState) × IsNext h w (step_view step.now) v a × IsUnderWay (k + 1) world.new authors.new h v) }
+{
+    let told = told_before(alloc, world, authors, step)?;
+    let answer = make_step(alloc, world, step)?;
+    note(alloc, authors, told, &answer)?;
+    Ok(answer)
+}
+
 // Answers a step.
 fn take_step(
     alloc: Global,
     world: &mut World,
+    authors: &mut Option<Authors>,
     step: &TraceStep,
 ) -> Result<Reply<EndCause>, AllocError>
     requires goes { GoesOn world.old }
     requires form { IsWithinLimits (step_view step.now) }
-    ensures { IfOk result (λ r. (k : ℕ) (h : HeaderView) (w : WorldState) → Stands k world.old h w
-        → IsStepReply h w (step_view step.now) (Stands (k + 1) world.new h) r) }
+    requires rules { KeepsRules (step_view step.now).act }
+    ensures { IfOk result (λ r. (k : ℕ) (h : HeaderView) (w : WorldState) → IsUnderWay k world.old authors.old h w
+        → IsStepReply h w (step_view step.now) (IsUnderWay (k + 1) world.new authors.new h) r) }
 {
-    let answer = make_step(alloc, world, step)?;
+    let answer = make_told_step(alloc, world, authors, step)?;
     let text = answer_line(alloc, &answer)?;
     tell(alloc, &text)
 }
@@ -103,7 +231,7 @@ fn take_read(
         (IsOpenedBy (k + 1) world.new authors.new) r) }
 {
     match read {
-        Line::Step(step) => take_step(alloc, world, step),
+        Line::Step(step) => take_step(alloc, world, authors, step),
         Line::Bad(cause) => take_other(alloc, world, authors, number, line, *cause),
     }
 }

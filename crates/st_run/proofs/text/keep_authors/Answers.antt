@@ -6,5 +6,5 @@ returns-in_ok-opening-clause-under_way c = λ k h w u. record {
   stands = u.stands;
   fit = u.fit;
   few = u.few;
-  kept = (c.new.ensures.opening ∙ c.in_ok-opening.ensures.is k h w u.stands, c.new.ensures.authors w.log);
+  kept = (c.new.ensures.opening ∙ c.in_ok-opening.ensures.is k h w u.stands, c.new.ensures.authors w.log, λ r k there. absurd (c.new.ensures.known r k there));
 }

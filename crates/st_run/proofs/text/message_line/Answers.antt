@@ -3,7 +3,7 @@ use Rattle.serde_json.specs.Written.{compact_text}
 use Rattle.st_doc.specs.Doc.{document_of}
 use Rattle.st_entry_texts.specs.Authors.{AreAuthorsOf}
 use Rattle.st_msg.specs.Messages.{message_data}
-use Rattle.st_run.proofs.EntriesTold.{kept_as, least_as, line_is, message_as, told_few, told_fit}
+use Rattle.st_run.proofs.EntriesTold.{kept_as, known_as, least_as, line_is, message_as, told_few, told_fit}
 use Rattle.st_run.proofs.text.message_line.Goals as goal
 
 pub push_message-requires-clause-authors : goal.push_message-requires-clause-authors
@@ -13,6 +13,14 @@ push_message-requires-clause-authors c =
     let w = c.requires.under_way.2 in
     let u = c.requires.under_way.3 in
     subst (λ es. AreAuthorsOf es c.args.authors.now) (sym (c.log.ensures k h w u.stands)) u.kept.1
+
+pub push_message-requires-clause-known : goal.push_message-requires-clause-known
+push_message-requires-clause-known c =
+    let k = c.requires.under_way.0 in
+    let h = c.requires.under_way.1 in
+    let w = c.requires.under_way.2 in
+    let u = c.requires.under_way.3 in
+    known_as h w c.args.authors.now c.log.result.now (c.log.ensures k h w u.stands) u.kept
 
 pub push_message-requires-clause-min : goal.push_message-requires-clause-min
 push_message-requires-clause-min c =
@@ -48,4 +56,4 @@ returns-clause-told c = λ k h w u.
     )
 
 pub returns-clause-kept : goal.returns-clause-kept
-returns-clause-kept c = λ k h w u. kept_as h w c.args.authors.now c.push_message.new.self c.log.result.now (c.log.ensures k h w u.stands) u.kept c.in_ok-push_message.ensures.opening c.in_ok-push_message.ensures.authors
+returns-clause-kept c = λ k h w u. kept_as h w c.args.authors.now c.push_message.new.self c.log.result.now (c.log.ensures k h w u.stands) u.kept c.in_ok-push_message.ensures.opening c.in_ok-push_message.ensures.authors c.in_ok-push_message.ensures.known
