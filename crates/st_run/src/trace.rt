@@ -66,15 +66,15 @@ pub fn make_step(alloc: Global, world: &mut World, step: &TraceStep) -> Result<A
 }
 
 // The change of the commit that an edit is about to write, if it has one.
-fn told_of(alloc: Global, writing: Writing) -> Result<Option<NewChange>, AllocError>
-    requires within { IsWithin (edit_of writing.edit.now) }
-    requires nodes { writing.given.nodes < 2 ^ 31 }
-    requires cells { writing.given.cells < 2 ^ 31 }
-    requires sound { IsSoundInForm (document_of writing.doc.now) }
-    requires fits { (N : Meant) → intent_of (document_of writing.doc.now) writing.schema.now writing.given (edit_view writing.edit.now) ≡ Ok N
-        → Fits (document_of writing.doc.now) N }
-    ensures { IfOk result (λ o. IfSome o (λ new. (new.received ≡ writing.received)
-        × IsToldOf (document_of writing.doc.now) (intent_of (document_of writing.doc.now) writing.schema.now writing.given (edit_view writing.edit.now)) (Some new.change))) }
+fn told_of(alloc: Global, writing: &Writing) -> Result<Option<NewChange>, AllocError>
+    requires within { IsWithin (edit_of writing.now.edit.now) }
+    requires nodes { writing.now.given.nodes < 2 ^ 31 }
+    requires cells { writing.now.given.cells < 2 ^ 31 }
+    requires sound { IsSoundInForm (document_of writing.now.doc.now) }
+    requires fits { (N : Meant) → intent_of (document_of writing.now.doc.now) writing.now.schema.now writing.now.given (edit_view writing.now.edit.now) ≡ Ok N
+        → Fits (document_of writing.now.doc.now) N }
+    ensures { IfOk result (λ o. IfSome o (λ new. (new.received ≡ writing.now.received)
+        × IsToldOf (document_of writing.now.doc.now) (intent_of (document_of writing.now.doc.now) writing.now.schema.now writing.now.given (edit_view writing.now.edit.now)) (Some new.change))) }
 {
     let told = told_of_edit(
         alloc,
@@ -102,7 +102,7 @@ fn change_before(
 {
     match world.writing(step) {
         None => Ok(None),
-        Some(writing) => told_of(alloc, writing),
+        Some(writing) => told_of(alloc, &writing),
     }
 }
 
