@@ -1,6 +1,6 @@
 -- An input has one list of answers under a command.
 use Rattle.std.proofs.lemmas.Option.{slice_get_within}
-use Rattle.std.proofs.Common.{◌≡◌, ◌⊎◌, inl, inr, arith, ◌<◌, ◌-◌, Option, Some, None, ℕ, ◌+◌, Bool, true, false, List, [], ◌∷◌, ◌++◌, append_assoc, append-nil, Result, Ok, Err, codes, length, refl, sym, ap, ◌∙◌, subst}
+use Rattle.std.proofs.Common.{◌≡◌, ◌⊎◌, inl, inr, arith, ◌-◌, Option, Some, None, ℕ, ◌+◌, Bool, true, false, List, [], ◌∷◌, ◌++◌, append_assoc, append-nil, Result, Ok, Err, codes, length, refl, sym, ap, ◌∙◌, subst}
 use Rattle.st_json.specs.declared.fault.BadCause.{BadCause}
 use Rattle.st_compat.specs.RelationText.{relation_line}
 use Rattle.st_compat.specs.Relation.{IsRelation}

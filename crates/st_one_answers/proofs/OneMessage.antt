@@ -1,10 +1,9 @@
 -- An entry has one message, by whichever of two logs that are alike.
-use Rattle.std.proofs.Common.{◌≡◌, ◌-◌, ◌==◌, ℕ, List, [], ◌∷◌, ◌++◌, take, drop, Option, Some, None, ◌⊎◌, inl, inr, refl, sym, ap, ◌∙◌, subst}
-use Rattle.std.specs.List.{filter, slice_get}
+use Rattle.std.proofs.Common.{◌≡◌, ◌-◌, ℕ, List, [], take, Option, Some, None, inl, inr, sym, ap, ◌∙◌, subst}
+use Rattle.std.specs.List.{slice_get}
 use Rattle.st_change_writer.specs.Told.{change_data}
 use Rattle.st_clusters.specs.Table.{table_of}
 use Rattle.st_clusters.specs.declared.ids.IdRange.{IdRange}
-use Rattle.st_lists.specs.Log.{commit_of, commits_by, commits_in, minimum, ranges_in}
 use Rattle.st_lists.specs.declared.lists.Body.{Body}
 use Rattle.st_lists.specs.declared.lists.Body.TheVariants as body
 use Rattle.st_lists.specs.declared.lists.Entry.{Entry}
@@ -17,10 +16,10 @@ use Rattle.st_mark_reader.specs.Naming.{Naming}
 use Rattle.st_mark_reader.specs.OpSpace.{number_or_null, op_number_in}
 use Rattle.st_idcodec.specs.OpText.{atom_data, rev_data}
 use Rattle.st_msg.specs.Messages.{Ack, Commit, Join, Leave, MessageView, SaidView}
-use Rattle.st_one_laws.specs.AlikeWorlds.{AlikeBody, AlikeEntry, InBoth, IsAlike, OneByOne, bare}
+use Rattle.st_one_laws.specs.AlikeWorlds.{AlikeBody, AlikeEntry, InBoth, IsAlike, OneByOne}
 use Rattle.st_one_laws.proofs.AlikeIntents.{lead_alike}
 use Rattle.st_one_laws.proofs.AlikeLogs.{authors_alike, minimum_alike, ranges_alike}
-use Rattle.st_one_laws.proofs.OneByOne.{behind, dropped, filter_mapped, filtered, got, taken}
+use Rattle.st_one_laws.proofs.OneByOne.{got, taken}
 use Rattle.st_same_laws.proofs.OneChange.{embedding_same}
 use Rattle.st_texts.specs.Names.{names_seen}
 use Rattle.st_texts.specs.Texts.{IsCommitSaid, IsMessageOf, IsSaid}

@@ -1,5 +1,5 @@
 -- The answers to the messages of an input are one.
-use Rattle.std.proofs.Common.{◌≡◌, ◌≤◌, ◌<◌, ◌^◌, ℕ, ◌+◌, List, [], Option, Some, None, Result, Ok, Err, codes, refl, sym, ap, ◌∙◌, subst, arith}
+use Rattle.std.proofs.Common.{◌≡◌, ℕ, List, [], Option, Some, None, Result, Ok, Err, codes, refl, sym, ap, ◌∙◌, subst, arith}
 use Rattle.serde_json.specs.Data.{Data}
 use Rattle.st_answers.specs.Replay.{FinishesReplay, IsBadInReplay, IsMessageLine, IsRefusedInReplay, LacksInReplay, ReplayState, TakesReplay, opened, taken_line, unopened}
 use Rattle.st_json.specs.Line.{line_value}

@@ -1,6 +1,6 @@
 -- A value is taken once: beside logs that are alike it passes the same tests, and leads to logs that are alike.
-use Rattle.std.proofs.Common.{◌≡◌, ◌+◌, ◌==◌, ◌&&◌, ◌||◌, ◌≤◌, nat_le, nat_lt, not, is_some, ℕ, zero, suc, Bool, true, false, cond, max, List, [], ◌∷◌, ◌++◌, length, take, drop, fold, map, Option, Some, None, IfSome, MatchOption, ◌⊎◌, inl, inr, refl, sym, ap, ◌∙◌, subst, option_and_then, option_map, arith}
-use Rattle.std.specs.List.{filter_map, find, list_any, cons_option}
+use Rattle.std.proofs.Common.{◌≡◌, ◌+◌, ◌==◌, ◌&&◌, ◌||◌, ◌≤◌, nat_le, nat_lt, not, is_some, ℕ, zero, suc, Bool, true, false, cond, List, [], ◌∷◌, ◌++◌, length, take, Option, Some, None, MatchOption, ◌⊎◌, inl, inr, refl, sym, ap, ◌∙◌, subst, option_and_then, option_map, arith}
+use Rattle.std.specs.List.{list_any}
 use Rattle.std.specs.Option.{option_map_or}
 use Rattle.std.proofs.lemmas.Bool.Decides.{nat_tests}
 use Rattle.serde_json.specs.Data.{Data}
@@ -12,22 +12,20 @@ use Rattle.st_clusters.specs.declared.ids.IdRange.{IdRange}
 use Rattle.st_edits.specs.ArrayTypes.{is_array_type}
 use Rattle.st_edits.specs.Fields.{put_register, register_in}
 use Rattle.st_edits.specs.InEffect.{schema_in_effect}
-use Rattle.st_edits.specs.Keeping.{HasRoomForSchema, KeepsToSchema, Made, MayFollow, PassesSchema, commit_named, home_of, made_of}
+use Rattle.st_edits.specs.Keeping.{KeepsToSchema, Made, MayFollow, PassesSchema, commit_named, home_of, made_of}
 use Rattle.st_ids.specs.Listing.{Has}
 use Rattle.st_ids.specs.Order.{same_rev}
 use Rattle.st_ids.specs.Root.{opening}
 use Rattle.st_ids.specs.declared.names.FieldId.{FieldId}
 use Rattle.st_ids.specs.declared.names.NodeId.{NodeId}
 use Rattle.st_ids.specs.declared.names.Rev.{Rev}
-use Rattle.st_lists.specs.Limits.{entries_limit_passed, log_limit_passed}
-use Rattle.st_lists.specs.Log.{clashes, commit_in, commit_of, commits_in, connected_after, connected_by, is_connected, known_reference, log_with, minimum, ranges_in, reference_in, reference_of, sessions_in, uuid_in, uuid_told, with_reference}
+use Rattle.st_lists.specs.Log.{commit_in, commits_in, is_connected, known_reference, log_with, sessions_in, uuid_in}
 use Rattle.st_lists.specs.declared.lists.Body.{Body}
 use Rattle.st_lists.specs.declared.lists.Body.TheVariants as body
 use Rattle.st_lists.specs.declared.lists.Entry.{Entry}
 use Rattle.st_log_laws.specs.Names.{IsMadeUnder, revisions}
 use Rattle.st_log_laws.proofs.Turns.{turn_extends}
 use Rattle.st_marks.specs.Document.{Document, IsSoundInForm}
-use Rattle.st_marks.specs.Embedding.{IsEmbedding}
 use Rattle.st_marks.specs.Intent.{register_of}
 use Rattle.st_marks.specs.LiveTree.{IsTreeText}
 use Rattle.st_marks.specs.Run.{Run}
@@ -40,30 +38,30 @@ use Rattle.st_marks.proofs.OneVerdict.{one_verdict}
 use Rattle.st_msg.specs.Messages.{MessageView, SaidView, message_of}
 use Rattle.st_msg.specs.Messages as told
 use Rattle.st_one_laws.specs.AlikeWorlds.{AlikeBody, AlikeEntry, InBoth, IsAlike, OneByOne, bare}
-use Rattle.st_one_laws.proofs.AlikeIntents.{alike_says, lead_alike, names_alike, rev_alike}
+use Rattle.st_one_laws.proofs.AlikeIntents.{alike_says, lead_alike, rev_alike}
 use Rattle.st_one_laws.proofs.AlikeLogs.{authors_alike, clashes_alike, commits_alike, connected_alike, entries_limit_alike, known_alike, log_limit_alike, minimum_alike, ranges_alike, sessions_alike, uuid_bare}
-use Rattle.st_one_laws.proofs.OneByOne.{any_same, as_long, behind, filter_mapped, folded, found, taken}
+use Rattle.st_one_laws.proofs.OneByOne.{any_same, as_long, behind, found, taken}
 use Rattle.st_same_laws.proofs.CarriedDocuments.{turned, verdict_same}
 use Rattle.st_same_laws.proofs.RunsOfCommits.{run_same}
-use Rattle.st_same_laws.specs.Same.{SaysTheSame, SayTheSame}
+use Rattle.st_same_laws.specs.Same.{SayTheSame}
 use Rattle.st_mark_reader.specs.OpSpace.{any_form, op_id_in}
 use Rattle.st_valid.specs.Author.{author_list, generated_with}
-use Rattle.st_valid.specs.Context.{AuthorsIntent, ContextOf, HasContext, IsInContext, SaysInContext, known_revisions}
-use Rattle.st_valid.specs.Ids.{carried_in, has_new_revision, has_next_ids, ids_are_next, is_new_revision, is_next_range, revision_is_new}
+use Rattle.st_valid.specs.Context.{AuthorsIntent, ContextOf, SaysInContext}
+use Rattle.st_valid.specs.Ids.{carried_in, ids_are_next, revision_is_new}
 use Rattle.st_valid.specs.Order.{is_in_order}
-use Rattle.st_valid.specs.References.{body_without_change, is_in_window, is_no_step_back, is_within, minimum_after, reference_said}
-use Rattle.st_valid.specs.Room.{HasRoomForNames, connected_among, connected_in, has_room, has_room_for_entry, has_room_for_names, has_room_to_say, names_of_change}
-use Rattle.st_valid.specs.Sessions.{comes_back, has_joined, is_new_session, is_of_session, session_may, tells}
+use Rattle.st_valid.specs.References.{body_without_change, is_in_window, is_no_step_back, minimum_after, reference_said}
+use Rattle.st_valid.specs.Room.{HasRoomForNames, connected_among, connected_in, has_room_for_entry, has_room_for_names, has_room_to_say, names_of_change}
+use Rattle.st_valid.specs.Sessions.{has_joined, session_may, tells}
 use Rattle.st_valid.specs.declared.message.Message.{Message}
 use Rattle.st_valid.specs.declared.message.ReplayCause.{ReplayCause}
 use Rattle.st_valid.specs.declared.message.ReplayCause.TheVariants as cause
 use Rattle.st_valid.specs.declared.message.Said.{Said}
 use Rattle.st_valid.specs.declared.message.Said.TheVariants as said
 use Rattle.st_valid_laws.specs.Messages.{IsBodyOf, IsFirstFailing, IsValidLog, Passes, in_order, one_message_more}
-use Rattle.st_valid_laws.specs.Schema.{ChangeKeeps, KeepsInContext, KeepsToItsSchema, SaysBySchema}
+use Rattle.st_valid_laws.specs.Schema.{ChangeKeeps, SaysBySchema}
 use Rattle.st_valid_laws.specs.Shape.{IsRead, IsReadSo, IsSaid, IsValueRefusedFor, PassesAsMessage, form_of_ids, message_with}
-use Rattle.st_valid_laws.specs.Taking.{ComesOut, HasVerdict, IsEnteredAs, IsTaken}
-use Rattle.st_valid_laws.proofs.OneMeaning.{one_document, one_meaning}
+use Rattle.st_valid_laws.specs.Taking.{ComesOut, HasVerdict, IsTaken}
+use Rattle.st_valid_laws.proofs.OneMeaning.{one_meaning}
 use Rattle.st_valid_laws.proofs.Readings.{one_reading}
 use Rattle.st_valid_laws.proofs.Standing.{all_stand}
 

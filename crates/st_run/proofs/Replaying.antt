@@ -1,22 +1,27 @@
 -- Replies to the lines of messages.
-use Rattle.std.proofs.Common.{◌≡◌, ◌<◌, ◌^◌, ℕ, ◌+◌, Bool, true, false, List, [], Option, Some, None, Ok, Err, refl, sym, ap, ◌∙◌, subst, arith, unwrap_or, option_and_then}
+use Rattle.std.proofs.Common.{◌≡◌, ℕ, ◌+◌, false, List, Option, Some, None, refl, sym, ◌∙◌, subst, arith}
 use Rattle.serde_json.specs.Data.{Data}
 use Rattle.serde_json.specs.Written.{has_float}
-use Rattle.st_answers.specs.Endings.{end_text, refused_text}
 use Rattle.st_answers.specs.Meaning.{EndsAt, FailsAt, FinishesAt}
-use Rattle.st_answers.specs.Replay.{IsLogShown, ReplayState, TakesReplay, opened, replay, taken_data, taken_line, unopened, void_told}
+use Rattle.st_answers.specs.Replay.{ReplayState, TakesReplay, opened, replay, taken_data, taken_line, unopened, void_told}
 use Rattle.st_answers.specs.declared.cause.EndCause.{EndCause}
 use Rattle.st_answers.specs.declared.cause.EndCause.TheVariants as why
-use Rattle.st_conform_laws.proofs.ValidEntries.{entries_have_schemas}
-use Rattle.st_conform_laws.proofs.ValidMessages.{valid_commits}
-use Rattle.st_conform_laws.specs.Entries.{IsOpened}
-use Rattle.st_doc.specs.Doc.{document_of}
-use Rattle.st_edits.proofs.SchemaTexts.{schema_back}
 use Rattle.st_json.specs.Line.{line_value}
 use Rattle.st_json.specs.declared.fault.BadCause.{BadCause}
-use Rattle.st_lists.specs.Log.{commits_in}
 use Rattle.st_lists.specs.declared.lists.Entry.{Entry}
-use Rattle.st_marks.specs.Document.{Document, IsSoundInForm}
+use Rattle.st_marks.specs.Document.{Document}
+use Rattle.st_marks.specs.LiveTree.{IsTreeText}
+use Rattle.st_marks.specs.Run.{Run}
+use Rattle.st_doc.specs.Doc.{document_of}
+use Rattle.st_doc.specs.declared.doc.Doc.{Doc}
+use Rattle.st_author_docs.specs.Authors.{LeadsTo}
+use Rattle.st_edits.specs.ArrayTypes.{is_array_type}
+use Rattle.st_edits.specs.InEffect.{schema_in_effect}
+use Rattle.st_lists.specs.Log.{commits_in}
+use Rattle.st_script.specs.AnswerText.{answer_line}
+use Rattle.st_script.specs.declared.answer.Answer.TheVariants as answer
+use Rattle.st_run.specs.inside.Trees.{HasSchemas}
+use Rattle.st_run.proofs.Trees.{log_has_schemas}
 use Rattle.st_marks.specs.declared.verdicts.Verdict.{Verdict}
 use Rattle.st_pieces.specs.Told.{IsEnd, IsReply}
 use Rattle.st_pieces.specs.declared.responder.Reply.{Reply}
@@ -28,7 +33,6 @@ use Rattle.st_run.specs.inside.Replaying.{IsMessageReply, IsReplayAt, IsReplayIn
 use Rattle.st_run.specs.inside.Replies.{IsRefusal, IsTelling}
 use Rattle.st_run.proofs.Replying.{ends_badly, reply_as}
 use Rattle.st_script.specs.Header.{HeaderView}
-use Rattle.st_valid.specs.Room.{HasRoomForNames}
 use Rattle.st_valid.specs.declared.message.ReplayCause.{ReplayCause}
 use Rattle.st_valid_laws.specs.Shape.{IsValueRefusedFor}
 use Rattle.st_valid_laws.specs.Taking.{IsTaken}
@@ -120,6 +124,15 @@ opening_taken old new n line told none by unopened stands = reply_as replay unop
 
 -- ## The end
 
+-- the document of a replay has schemas, and its text is that of the log's tree
+pub doc_schemas : (r : Replay) (d : Doc) → ((O : Document) (log : List Entry) → StandsAt r O log → LeadsTo O (commits_in log) d) → (t : ReplayState) × IsReplayAt r t → HasSchemas (document_of d)
+doc_schemas r d leads (unopened, at) = absurd at
+doc_schemas r d leads (opened h log, at) = log_has_schemas h log (document_of d) at.0 at.1.valid (leads (opening_document h) log at.1).ran
+
+pub tree_told : (O : Document) (log : List Entry) (D : Document) (tree text : List ℕ) (r : Reply EndCause) → Run O (commits_in log) D → IsTreeText (is_array_type (schema_in_effect D)) D tree → text ≡ answer_line (answer.Show tree) → IsTelling text r → IsTreeReply O log r
+tree_told O log D tree text (Goes t) ran shown is told = record { document = D; ran = ran; tree = tree; shown = shown; told = told ∙ is }
+tree_told O log D tree text (Ends t e) ran shown is told = absurd told
+
 pub tree_ends : (x : Replaying) (n : ℕ) (r : Replay) (told : Reply EndCause) → x.replay ≡ Some r
     → ((h : HeaderView) (log : List Entry) → IsHeader h → StandsAt r (opening_document h) log → IsTreeReply (opening_document h) log told)
     → (s : ReplayState) → StandsForReplay x n s → IsEnd (FinishesAt replay s n) (FailsAt replay s n) told
@@ -133,7 +146,7 @@ tree_ends x n r told is by (opened h log) (z, there, at) =
 
     so : (t : Reply EndCause) → IsTreeReply (opening_document h) log t → IsEnd (FinishesAt replay (opened h log) n) (FailsAt replay (opened h log) n) t
     so (Goes text) shown = shown
-    so (Ends text e) no = absurd no
+    so (Ends text e) x = absurd x
 
 pub end_lacks_header : (x : Replaying) (n : ℕ) (told : Reply EndCause) → x.replay ≡ None → IsRefusal n (why.Bad BadCause.Header) told
     → (s : ReplayState) → StandsForReplay x n s → IsEnd (FinishesAt replay s n) (FailsAt replay s n) told

@@ -1,5 +1,5 @@
 -- Replies to lines, of whatever command.
-use Rattle.std.proofs.Common.{◌≡◌, ℕ, List, sym, ◌∙◌, ap, subst}
+use Rattle.std.proofs.Common.{ℕ, List, sym, ◌∙◌, ap, subst}
 use Rattle.st_pieces.specs.Told.{IsEnd, IsReply}
 use Rattle.st_pieces.specs.declared.responder.Reply.{Reply}
 use Rattle.st_pieces.specs.declared.responder.Reply.TheVariants.{Goes, Ends}

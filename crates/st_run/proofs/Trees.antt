@@ -1,5 +1,5 @@
 -- The tree that the document of a log shows.
-use Rattle.std.proofs.Common.{◌≡◌, ◌-◌, ◌+◌, ℕ, zero, suc, Bool, true, false, List, [], ◌∷◌, length, Option, Some, None, refl, sym, ap, ◌∙◌, subst, inl, inr, arith, unwrap_or, option_and_then, slice_get}
+use Rattle.std.proofs.Common.{◌≡◌, ◌-◌, ℕ, zero, suc, List, [], ◌∷◌, length, Option, Some, None, refl, sym, ap, ◌∙◌, subst, inl, inr, arith, unwrap_or, option_and_then, slice_get}
 use Rattle.std.specs.List.{last_or}
 use Rattle.st_conform_laws.proofs.ValidEntries.{entries_have_schemas}
 use Rattle.st_conform_laws.proofs.ValidMessages.{valid_commits}
@@ -19,7 +19,6 @@ use Rattle.st_schema.specs.Reading.{schema_of_text}
 use Rattle.st_schema.specs.Schema.{SchemaView}
 use Rattle.st_schema_laws.proofs.Opened.{allowed_conforms}
 use Rattle.st_schema_laws.specs.Widening.{IsTextOf}
-use Rattle.st_schema_texts.specs.Reading.{IsSchemaOf}
 use Rattle.st_script.specs.Header.{HeaderView}
 use Rattle.st_valid.specs.Room.{HasRoomForNames}
 use Rattle.st_valid_laws.specs.Messages.{IsValidLog}
@@ -45,8 +44,8 @@ header_opened h k =
     }
   where
     text : (e : SchemaEntry) → Has (opening_document h).schemas e → IsTextOf h.schema e.text
-    text e (inl is) = subst (λ (x : SchemaEntry). IsTextOf h.schema x.text) (sym is) (record { written = refl; back = schema_back h.schema k.schema })
-    text e (inr no) = absurd no
+    text e (inl is) = subst (λ (x : SchemaEntry). IsTextOf h.schema x.text) is (record { written = refl; back = schema_back h.schema k.schema })
+    text e (inr none) = absurd none
 
 -- ## The document of a log
 
@@ -73,7 +72,9 @@ last_got o x (y ∷ ys) = last_got (Some x) y ys
 
 last_is : {A : Type 0} (xs : List A) (x : A) → Some x ≡ slice_get xs (length xs - 1) → last_of xs ≡ Some x
 last_is [] x e = absurd (let f : Some x ≡ None = e in cc)
-last_is (y ∷ ys) x e = sym (last_got None y ys) ∙ sym e
+last_is (y ∷ ys) x e =
+    let short : length (y ∷ ys) - 1 ≡ length ys = omega arith in
+    sym (last_got None y ys) ∙ ap (slice_get (y ∷ ys)) (sym short) ∙ sym e
 
 pub last_there : (es : List SchemaEntry) (e : SchemaEntry) → Some e ≡ slice_get es (length es - 1) → Has es e
 last_there es e at = got_has es (length es - 1) e (sym at)

@@ -13,7 +13,6 @@ use Rattle.st_pieces.specs.declared.responder.Reply.TheVariants.{Goes, Ends}
 use Rattle.st_replay.specs.Stands.{StandsAt}
 use Rattle.st_replay.specs.declared.replay.Replay.{Replay}
 use Rattle.st_run.specs.declared.replay.Replaying.{Replaying}
-use Rattle.st_script.specs.Header.{HeaderView}
 use Rattle.st_valid.specs.declared.message.ReplayCause.{ReplayCause}
 use Rattle.st_valid_laws.specs.Shape.{IsValueRefusedFor}
 use Rattle.st_valid_laws.specs.Taking.{IsTaken}
