@@ -1,0 +1,9 @@
+mod Small
+mod Walk
+mod Counts
+mod Ordered
+mod Over
+mod Names
+mod Tests
+mod Going
+mod BySchema

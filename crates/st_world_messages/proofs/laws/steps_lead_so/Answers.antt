@@ -1,0 +1,5 @@
+use Rattle.st_world_messages.proofs.Walk.{leads_on}
+use Rattle.st_world_messages.proofs.laws.steps_lead_so.Goals as goal
+
+pub returns : goal.returns
+returns c = λ h w v s a world v4 next. leads_on h w v s a world v4 next

@@ -1,0 +1,3 @@
+pub mod Messages
+pub mod Order
+pub mod Steps
