@@ -1,9 +1,14 @@
-use Rattle.std.proofs.Common.{◌≡◌, Option, Some, inr, rules, subst}
+use Rattle.std.proofs.Common.{◌≡◌, ◌<◌, ℕ, List, length, Option, Some, inl, inr, arith, rules, subst}
 use Rattle.std.proofs.lemmas.Result.{IfOk-weaker}
 use Rattle.st_entry_texts.specs.declared.entry.Authors.{Authors}
+use Rattle.st_answers.specs.Trace.{IsNoEntry}
+use Rattle.st_lists.specs.declared.lists.Entry.{Entry}
+use Rattle.st_lists.specs.declared.lists.WorldState.{WorldState}
+use Rattle.st_script.specs.Header.{HeaderView}
 use Rattle.st_run.specs.inside.Standing.{IsUnderWay}
 use Rattle.st_run.proofs.EntriesTold.{kept_on, on_ok}
 use Rattle.st_run.proofs.text.tell_entry.Goals as goal
+use Rattle.st_run.proofs.text.tell_entry.Goals.{then-n-eq0-via-then-n-eq0, then-n-eq0-via-else-n-eq0+then-n-log}
 
 pub message_line-requires-clause-under_way : goal.message_line-requires-clause-under_way
 message_line-requires-clause-under_way c =
@@ -24,3 +29,12 @@ returns-clause-under_way c =
     (λ kept k h w u.
     let v = subst (λ (o : Option Authors). IsUnderWay k c.args.world.now o h w) is (c.in_ok-keep_authors.ensures.under_way k h w u) in
     kept_on k c.args.world.now c.in-Some.authors c.message_line.new.authors h w v (kept k h w v)) c.message_line.ensures.kept
+
+pub returns-then-n-eq0-clause-told : goal.returns-then-n-eq0-clause-told
+returns-then-n-eq0-clause-told c = IfOk-weaker c.no_entry.result _ _ (λ t is k h w u. inl (none k h w u, is)) c.no_entry.ensures
+  where
+    none : (k : ℕ) (h : HeaderView) (w : WorldState) → IsUnderWay k c.args.world.now c.args.authors.now h w → IsNoEntry w.log c.args.n
+    none k h w u = elim c.then-n-eq0.branch [
+      | then-n-eq0-via-then-n-eq0 x ↦ inl x.if-n-eq0.true
+      | then-n-eq0-via-else-n-eq0+then-n-log x ↦ inr (subst (λ (l : List Entry). length l < c.args.n) (x.log.ensures k h w u.stands) x.if-n-log.true)
+    ]
