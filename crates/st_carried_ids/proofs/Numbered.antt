@@ -23,7 +23,8 @@ use Rattle.st_valid.specs.Author.{author_list}
 use Rattle.st_world_laws.specs.Worlds.{HasOwnIds, IsClient, IsEntryOf, IsQueue, IsWorld}
 use Rattle.st_world_laws.proofs.Entering.{place_among}
 use Rattle.st_world_laws.proofs.Everyone.{all_get}
-use Rattle.st_carried_ids.specs.CarriedIds.{AreNumbered, CarryIds, IsKnownAt, IsLogNumbered, IsNumbered}
+use Rattle.st_texts.specs.Names.{IsKnownAt}
+use Rattle.st_carried_ids.specs.CarriedIds.{AreNumbered, CarryIds, IsLogNumbered, IsNumbered}
 use Rattle.st_carried_ids.proofs.Carrying.{carried_least}
 
 -- the front of a log carries no more ids than a longer front

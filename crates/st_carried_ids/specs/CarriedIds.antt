@@ -1,9 +1,8 @@
 -- The id of each commit is among those that its session's texts carry up to it.
-use Rattle.std.specs.Prelude.{◌≡◌, ◌⊎◌, ℕ, ◌+◌, ◌<◌, ◌≤◌, List, [], ◌∷◌, ◌++◌, slice_get, take, Some}
+use Rattle.std.specs.Prelude.{◌≡◌, ℕ, ◌+◌, ◌≤◌, List, [], ◌∷◌, ◌++◌, slice_get, take, Some}
 use Rattle.std.specs.List.{AllByRecursion}
 use Rattle.st_clusters.specs.Log.{carried_count}
 use Rattle.st_clusters.specs.declared.ids.IdRange.{IdRange}
-use Rattle.st_ids.specs.declared.names.Rev.{Rev}
 use Rattle.st_marks.specs.declared.intents.Intent.{Intent}
 use Rattle.st_lists.specs.Log.{ranges_in, ranges_of}
 use Rattle.st_lists.specs.declared.lists.Body.{Body}
@@ -34,11 +33,6 @@ IsLogNumbered log = (i : ℕ) (e : Entry) (reference : ℕ) (ids : IdRange) (N :
 pub record CarryIds (w : WorldState) : Type 0 where
   pub log : IsLogNumbered w.log
   pub waiting : AllByRecursion (λ (c : Client). AreNumbered c.session (ranges_in w.log) c.queue) w.clients
-
--- one who has read the entries of a log up to the reference of a session's text, and which ids the text carries, knows a
--- number for a revision: the entries carry it, or it is one of the session's own, none after those that the text carries
-abbrev pub IsKnownAt : List Entry → ℕ → ℕ → IdRange → Rev → Type 0
-IsKnownAt log session reference ids r = (r.num ≤ carried_count r.session (ranges_in (take reference log))) ⊎ ((r.session ≡ session) × (r.num < ids.first + ids.count))
 
 -- the log carries at most so many ids of each session
 abbrev pub CarryFew : ℕ → List Entry → Type 0

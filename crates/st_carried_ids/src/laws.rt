@@ -18,7 +18,8 @@ ghost use Rattle.st_script.specs.declared.answer.Answer.{Answer};
 ghost use Rattle.st_valid.specs.Author.{author_list};
 ghost use Rattle.st_world.specs.World.{IsNext};
 ghost use Rattle.st_world_laws.specs.Worlds.{IsWorld, KeepsRules};
-ghost use Rattle.st_carried_ids.specs.CarriedIds.{CarryFew, CarryIds, IsKnownAt};
+ghost use Rattle.st_texts.specs.Names.{IsKnownAt};
+ghost use Rattle.st_carried_ids.specs.CarriedIds.{CarryFew, CarryIds};
 
 /// Before any client joins no commit is in the log, and none waits.
 pub fn ids_begin()

@@ -1,8 +1,9 @@
--- What can be told of a change or a step: numbers below 2^32, keys of at most 64 bytes, leaves of their types, schemas that
+-- What can be told of a change or a step, and of intents and documents that give such changes: numbers below 2^32, keys of at most 64 bytes, leaves of their types, schemas that
 -- keep the rules, and names of some kind.
-use Rattle.std.specs.Prelude.{◌≡◌, ◌<◌, ◌≤◌, ◌^◌, ℕ, ℤ, pos, negsuc, List, [], length, false, IsTrue, Option, None, Some}
+use Rattle.std.specs.Prelude.{◌≡◌, ◌<◌, ◌≤◌, ◌^◌, ℕ, ℤ, pos, negsuc, List, [], length, false, IsTrue, Option, None, Some, IfSome, IsSome}
 use Rattle.std.specs.List.{AllByRecursion}
 use Rattle.serde_json.specs.Written.{compact_text}
+use Rattle.st_ids.specs.Listing.{Has}
 use Rattle.st_ids.specs.declared.names.Atom.{Atom}
 use Rattle.st_ids.specs.declared.names.FieldId.{FieldId}
 use Rattle.st_ids.specs.declared.names.Leaf.{Leaf}
@@ -10,15 +11,21 @@ use Rattle.st_ids.specs.declared.names.NodeId.{NodeId}
 use Rattle.st_ids.specs.declared.names.Rev.{Rev}
 use Rattle.st_marks.specs.declared.changes.Change.{Change}
 use Rattle.st_marks.specs.declared.changes.NewNode.{NewNode}
+use Rattle.st_marks.specs.declared.intents.Intent.{Intent}
+use Rattle.st_marks.specs.declared.intents.Owned.{Owned}
+use Rattle.st_marks.specs.declared.intents.Put.{Put}
 use Rattle.st_marks.specs.declared.marks.How.{How}
 use Rattle.st_marks.specs.declared.marks.Loose.{Loose}
 use Rattle.st_marks.specs.declared.marks.Mark.{Mark}
 use Rattle.st_marks.specs.declared.marks.RegMark.{RegMark}
 use Rattle.st_marks.specs.declared.marks.RegStep.{RegStep}
 use Rattle.st_marks.specs.declared.marks.RowMarks.{RowMarks}
+use Rattle.st_marks.specs.declared.places.Spot.{Spot}
 use Rattle.st_marks.specs.declared.schemas.SchemaEntry.{SchemaEntry}
 use Rattle.st_marks.specs.declared.schemas.SchemaStep.{SchemaStep}
 use Rattle.st_marks.specs.declared.steps.Step.{Step}
+use Rattle.st_marks.specs.Document.{Document}
+use Rattle.st_marks.specs.Intent.{group_cells, register_of}
 use Rattle.st_clusters.specs.declared.at.At.{At}
 use Rattle.st_idcodec.specs.OpText.{IsShort}
 use Rattle.st_mark_reader.specs.OpSpace.{op_number}
@@ -53,8 +60,11 @@ abbrev pub OccupantIsWithin : (Atom → Type 0) → Option NodeId → Type 0
 OccupantIsWithin A None = Unit {0}
 OccupantIsWithin A (Some x) = A x.0
 
+abbrev pub KeyIsShort : FieldId → Type 0
+KeyIsShort f = length f.key.0 ≤ 64
+
 abbrev pub FieldIsWithin : (Atom → Type 0) → FieldId → Type 0
-FieldIsWithin A f = A f.node.0 × (length f.key.0 ≤ 64)
+FieldIsWithin A f = A f.node.0 × KeyIsShort f
 
 abbrev pub RegisterIsWithin : (Atom → Type 0) → RegMark → Type 0
 RegisterIsWithin A r = FieldIsWithin A r.field × OccupantIsWithin A r.held × OccupantIsWithin A r.fill
@@ -111,6 +121,23 @@ pub record ChangeIsWithin (R : Rev → Type 0) (A : Atom → Type 0) (C : Change
   pub rev : R C.rev
   pub under : R C.under
   pub content : ContentIsWithin A C C.schema
+
+-- ## Intents and documents, whose changes can be told
+
+-- the names that an intent makes are of a kind, its new nodes can be told, the registers that it names have keys of at most
+-- 64 bytes, and a schema that it brings in keeps the rules
+pub record IntentIsWithin (A : Atom → Type 0) (N : Intent) : Type 0 where
+  pub new : AllByRecursion (NewIsWithin A) N.new
+  pub cells : AllByRecursion (λ (o : Owned). A o.cell.0) (group_cells N)
+  pub puts : AllByRecursion (λ (p : Put). IfSome (register_of p.to) KeyIsShort) N.put
+  pub clears : AllByRecursion KeyIsShort N.clear
+  pub schema : IfSome N.schema IsSchemaText
+
+-- a document's names are of a kind, and the registers in which nodes stand have keys of at most 64 bytes
+pub record DocumentIsWithin (A : Atom → Type 0) (D : Document) : Type 0 where
+  pub nodes : (n : NodeId) → IsSome (D.nodes n) → A n.0
+  pub cells : (n : NodeId) (o : Owned) → Has (D.rows n) o → A o.cell.0
+  pub keys : (n : NodeId) (f : FieldId) → D.place n ≡ Spot.Register f → KeyIsShort f
 
 -- ## Steps
 

@@ -1,5 +1,6 @@
 -- By which numbers the author of a message tells ids: those that it saw.
-use Rattle.std.specs.Prelude.{ℕ, ℤ, List, [], Option, take}
+use Rattle.std.specs.Prelude.{◌⊎◌, ◌≡◌, ◌+◌, ◌<◌, ◌≤◌, ℕ, ℤ, List, [], Option, take}
+use Rattle.st_clusters.specs.Log.{carried_count}
 use Rattle.st_clusters.specs.Table.{table_of}
 use Rattle.st_clusters.specs.declared.ids.IdRange.{IdRange}
 use Rattle.st_ids.specs.declared.names.Rev.{Rev}
@@ -21,3 +22,8 @@ names_seen log session reference ids = record {
   rev = λ r. number_or_null (number_seen log session reference ids r) rev_data;
   atom = λ x. number_or_null (number_seen log session reference ids x.rev) (λ z. atom_data z x.at);
 }
+
+-- one who has read the entries of a log up to the reference of a session's text, and which ids the text carries, knows a
+-- number for a revision: the entries carry it, or it is one of the session's own, none after those that the text carries
+abbrev pub IsKnownAt : List Entry → ℕ → ℕ → IdRange → Rev → Type 0
+IsKnownAt log session reference ids r = (r.num ≤ carried_count r.session (ranges_in (take reference log))) ⊎ ((r.session ≡ session) × (r.num < ids.first + ids.count))
