@@ -1,5 +1,5 @@
 //! The row of a node, as a change lists it.
-ghost use Rattle.std.specs.Prelude.{◌≡◌, ◌++◌, [], map, if◌then◌else◌, IfOk, OnOk, Some};
+ghost use Rattle.std.specs.Prelude.{◌≡◌, ◌++◌, [], Bool, false, map, if◌then◌else◌, IfOk, OnOk, Some};
 ghost use Rattle.std.specs.BTreeMap.{get};
 ghost use Rattle.std.specs.BTreeSet.{contains};
 ghost use Rattle.st_ids.specs.Order.{node_cmp};
@@ -70,21 +70,29 @@ fn is_here(how: How) -> bool
     }
 }
 
-// The mark of a cell that is found, unless it is counted.
+// The mark of a cell that is found empty: its owner is put there, or it stays empty.
+fn empty_mark(wants: &Wants, owned: Owned) -> Mark
+    ensures { (m : Node → Bool) (n : Node) → Some result ≡ mark_of (embed_cell (part_in_row wants.now m n) owned.cell owned.node false) }
+{
+    let Owned { cell, node } = owned;
+    if is_here(how_in_cell(wants, node, cell)) {
+        Mark::Fill { cell, node }
+    } else {
+        Mark::Gap(cell)
+    }
+}
+
+// The mark of a cell that is found, unless it is counted. Where a node leads is looked up only where a mark tells it.
 fn found_mark(wants: &Wants, mentioned: &BTreeSet<NodeId>, owned: Owned, full: bool) -> Option<Mark>
     ensures { (n : Node) → result ≡ mark_of (embed_cell (part_in_row wants.now
         (contains node_cmp mentioned.now) n) owned.cell owned.node full) }
 {
-    let how = how_in_cell(wants, owned.node, owned.cell);
-    let Owned { cell, node } = owned;
     if !full {
-        return Some(if is_here(how) {
-            Mark::Fill { cell, node }
-        } else {
-            Mark::Gap(cell)
-        });
+        return Some(empty_mark(wants, owned));
     }
+    let Owned { cell, node } = owned;
     if mentioned.contains(&node) {
+        let how = how_in_cell(wants, node, cell);
         Some(Mark::Touch { cell, node, how })
     } else {
         None
