@@ -1,12 +1,12 @@
 //! Edits, resolved to what they mean.
-ghost use Rattle.std.specs.Prelude.{◌≡◌, ◌<◌, ◌^◌, ◌+◌, ◌∷◌, [], length, nat_le, Ok, Err, IfOk};
+ghost use Rattle.std.specs.Prelude.{◌≡◌, ℕ, ◌<◌, ◌^◌, ◌+◌, ◌∷◌, [], length, nat_le, Ok, Err, IfOk};
 ghost use Rattle.st_ids.specs.Or.{IfRefused, and_then};
 ghost use Rattle.st_tree.specs.Node.{trees_view, view, first, no_nodes};
 ghost use Rattle.st_tree.specs.Size.{check_of, check_items};
 ghost use Rattle.st_tree.specs.declared.edit.EditFault.{EditFault as Faults};
 ghost use Rattle.st_schema.specs.declared.names.FieldRule.{FieldRule as Rule};
 ghost use Rattle.st_doc.specs.Doc.{document_of};
-ghost use Rattle.st_edits.specs.Paths.{field_at, row_length};
+ghost use Rattle.st_edits.specs.Paths.{field_at, left_of, row_length};
 ghost use Rattle.st_edits.specs.declared.names.Takes.{Takes as Taking};
 ghost use Rattle.st_edits.specs.Resolve.{named_nodes, require, allowed_nodes, intent_to_insert, intent_to_place, rule_for, nodes_taken, insert, remove, move_to, move as move_of, put, clear, need, may_move, resolve, IsWithin};
 
@@ -19,7 +19,7 @@ use crate::paths::{field_at, walk};
 use crate::rules::{names_left, nodes_allowed, require, rule_for, trees_allowed};
 use st_doc::Doc;
 use st_edits::{NameCounters, Takes};
-use st_ids::{Copied, FieldId, Key, List, NodeId, Or, Path};
+use st_ids::{CellId, Copied, FieldId, Key, List, NodeId, Or, Path};
 use st_marks::Intent;
 use st_schema::{FieldRule, KindName, Schema};
 use st_tree::{Edit, EditFault, FlatNode, Tree, flatten};
@@ -75,16 +75,22 @@ fn allowed_nodes(
     Ok(nodes)
 }
 
-// Nothing, where the row of a node has an item at the index, or ends there.
-fn ask_index(alloc: Global, doc: &Doc, node: NodeId, index: u32) -> Result<(), Or<EditFault>>
-    ensures ok { IfOk result (λ u. require (nat_le index (row_length (document_of doc.now) node)) Faults.Range ≡ Ok u) }
+// The cell of the item left of an index, or the row's start, where the row of a node has an item at the index or ends there.
+fn left_within(doc: &Doc, node: NodeId, index: u32) -> Result<Option<CellId>, Or<EditFault>>
+    ensures left { IfOk result (λ c. c ≡ left_of (document_of doc.now) node index) }
+    ensures ok { IfOk result (λ c. require (nat_le index (row_length (document_of doc.now) node)) Faults.Range ≡ Ok tt) }
     ensures bad { IfRefused result (λ e. require (nat_le index (row_length (document_of doc.now) node)) Faults.Range ≡ Err e) }
 {
-    let count = doc.live_slots(alloc, node)?.len();
-    refuse(require(index as usize <= count, EditFault::Range))
+    if index == 0 {
+        return Ok(None);
+    }
+    match doc.live_slot(node, index - 1) {
+        Some(slot) => Ok(Some(slot.cell)),
+        None => Err(Or::Fault(EditFault::Range)),
+    }
 }
 
-// New items at an index of a row that has it, where the row's rule allows them.
+// New items of a row behind a cell or at the row's start, where the row's rule allows them: at each index left of which the cell is.
 fn insert_at(
     alloc: Global,
     doc: &Doc,
@@ -92,17 +98,17 @@ fn insert_at(
     given: NameCounters,
     rule: &FieldRule,
     node: NodeId,
-    index: u32,
+    after: Option<CellId>,
     items: &List<Tree>,
 ) -> Result<Intent, Or<EditFault>>
     requires within { check_items (trees_view items.now) ≡ Ok tt }
     requires nodes { given.nodes < 2 ^ 31 }
     requires cells { given.cells < 2 ^ 31 }
-    ensures ok { IfOk result (λ i. and_then (allowed_nodes schema.now given rule.now (trees_view items.now)) (λ xs. Ok (intent_to_insert (document_of doc.now) given node index xs)) ≡ Ok i) }
-    ensures bad { IfRefused result (λ e. and_then (allowed_nodes schema.now given rule.now (trees_view items.now)) (λ xs. Ok (intent_to_insert (document_of doc.now) given node index xs)) ≡ Err e) }
+    ensures ok { IfOk result (λ i. (index : ℕ) → after ≡ left_of (document_of doc.now) node index → and_then (allowed_nodes schema.now given rule.now (trees_view items.now)) (λ xs. Ok (intent_to_insert (document_of doc.now) given node index xs)) ≡ Ok i) }
+    ensures bad { IfRefused result (λ e. allowed_nodes schema.now given rule.now (trees_view items.now) ≡ Err e) }
 {
     let nodes = allowed_nodes(alloc, schema, given, rule, items)?;
-    Ok(intent_to_insert(alloc, doc, given, node, index, nodes.as_slice())?)
+    Ok(intent_to_insert(alloc, doc, given, node, after, nodes.as_slice())?)
 }
 
 /// New items at an index of a row, as `resolve` says it of that edit.
@@ -125,8 +131,8 @@ pub fn insert(
 {
     let node = walk(alloc, doc, at)?;
     let rule = rule_for(alloc, Takes::Row, doc, schema, node, key)?;
-    ask_index(alloc, doc, node, index)?;
-    insert_at(alloc, doc, schema, given, &rule, node, index, items)
+    let after = left_within(doc, node, index)?;
+    insert_at(alloc, doc, schema, given, &rule, node, after, items)
 }
 
 /// Items of a row go nowhere, as `resolve` says it of that edit.

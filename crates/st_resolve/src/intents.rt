@@ -1,11 +1,12 @@
 //! The intents of edits.
-ghost use Rattle.std.specs.Prelude.{◌≡◌, ◌∷◌, ◌++◌, ◌<◌, ◌^◌, ◌+◌, [], length, map, IfOk, OnOk, None, Some, unwrap_or};
+ghost use Rattle.std.specs.Prelude.{◌≡◌, ℕ, ◌∷◌, ◌++◌, ◌<◌, ◌^◌, ◌+◌, [], length, map, IfOk, OnOk, None, Some, unwrap_or};
 ghost use Rattle.st_marks.specs.declared.intents.To.{To as Target};
 ghost use Rattle.st_marks.specs.Document.{last_of, revs};
 ghost use Rattle.st_ids.specs.Root.{opening};
 ghost use Rattle.st_doc.specs.Doc.{document_of};
 ghost use Rattle.st_opening.specs.Start.{registers};
 ghost use Rattle.st_edits.specs.New.{new_nodes, group_of, groups_under, puts, top_cells};
+ghost use Rattle.st_edits.specs.Paths.{left_of};
 ghost use Rattle.st_edits.specs.Resolve.{empty_intent, with_group, intent_to_insert, intent_to_place, intent_to_remove, cells_for, in_cells, moved_to_row, moved_to_field};
 
 use crate::new_trees::{add_groups, add_registers, group_of, new_nodes, puts, top_cells};
@@ -114,18 +115,17 @@ fn fill_inserted(
     Ok(())
 }
 
-/// New items in a row, directly after the cell of the item left of the index.
+/// New items in a row, directly after a cell, or at the row's start: at each index left of which the cell is.
 pub fn intent_to_insert(
     alloc: Global,
     doc: &Doc,
     given: NameCounters,
     node: NodeId,
-    index: u32,
+    after: Option<CellId>,
     nodes: &[FlatNode],
 ) -> Result<Intent, AllocError>
-    ensures { IfOk result (λ i. i ≡ intent_to_insert (document_of doc.now) given node index nodes.now) }
+    ensures { IfOk result (λ i. (index : ℕ) → after ≡ left_of (document_of doc.now) node index → i ≡ intent_to_insert (document_of doc.now) given node index nodes.now) }
 {
-    let after = left_of(doc, node, index);
     let mut intent = empty_intent(alloc, doc, given);
     fill_inserted(alloc, &mut intent, node, after, nodes)?;
     Ok(intent)

@@ -31,8 +31,34 @@ fn nodes_of(alloc: Global, slots: &[Slot]) -> Result<List<NodeId>, AllocError>
     Ok(nodes)
 }
 
-/// So many items of a row, from an index on. `Range` where the row shows fewer.
-pub fn items_from(
+// A list of one node.
+fn one_node(alloc: Global, node: NodeId) -> Result<List<NodeId>, AllocError>
+    ensures { IfOk result (λ ns. ns ≡ node ∷ []) }
+{
+    let mut nodes = List::new(alloc);
+    nodes.push(node)?;
+    Ok(nodes)
+}
+
+// One item of a row: the row is gone through up to it.
+fn item_from(
+    alloc: Global,
+    doc: &Doc,
+    node: NodeId,
+    index: u32,
+) -> Result<List<NodeId>, Or<EditFault>>
+    ensures ok { IfOk result (λ ns. within_row (document_of doc.now) node index 1 ≡ Ok ns) }
+    ensures bad { IfRefused result (λ e. within_row (document_of doc.now) node index 1 ≡ Err e) }
+    ensures few { IfOk result (λ ns. length ns ≡ 1) }
+{
+    match doc.live_slot(node, index) {
+        Some(slot) => Ok(one_node(alloc, slot.node)?),
+        None => Err(Or::Fault(EditFault::Range)),
+    }
+}
+
+// Some items of a row.
+fn items_among(
     alloc: Global,
     doc: &Doc,
     node: NodeId,
@@ -50,6 +76,24 @@ pub fn items_from(
         return Err(Or::Fault(EditFault::Range));
     }
     Ok(nodes_of(alloc, &slots.as_slice()[first..end])?)
+}
+
+/// So many items of a row, from an index on. `Range` where the row shows fewer.
+pub fn items_from(
+    alloc: Global,
+    doc: &Doc,
+    node: NodeId,
+    index: u32,
+    count: u32,
+) -> Result<List<NodeId>, Or<EditFault>>
+    ensures ok { IfOk result (λ ns. within_row (document_of doc.now) node index count ≡ Ok ns) }
+    ensures bad { IfRefused result (λ e. within_row (document_of doc.now) node index count ≡ Err e) }
+    ensures few { IfOk result (λ ns. length ns ≡ count) }
+{
+    if count == 1 {
+        return item_from(alloc, doc, node, index);
+    }
+    items_among(alloc, doc, node, index, count)
 }
 
 // The one node of an optional field, which a move names by the index 0 and the count 1.
@@ -70,9 +114,7 @@ fn occupant(
     let Some(node) = doc.held(field) else {
         return Err(Or::Fault(EditFault::Range));
     };
-    let mut nodes = List::new(alloc);
-    nodes.push(node)?;
-    Ok(nodes)
+    Ok(one_node(alloc, node)?)
 }
 
 /// The nodes that a move takes from a row, or from an optional field, which has one.
