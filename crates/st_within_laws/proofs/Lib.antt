@@ -1,1 +1,3 @@
 pub mod Documents
+pub mod MarksWithin
+pub mod ChangesWithin

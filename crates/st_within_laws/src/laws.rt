@@ -1,12 +1,16 @@
 //! Laws on what can be told of intents, documents and changes: each is the contract of a function that does nothing.
 ghost use Rattle.std.specs.Prelude.{List};
 ghost use Rattle.std.specs.List.{AllByRecursion};
+ghost use Rattle.st_marks.specs.declared.changes.Change.{Change};
 ghost use Rattle.st_marks.specs.declared.intents.Intent.{Intent};
 ghost use Rattle.st_marks.specs.declared.verdicts.Verdict.{Verdict};
-ghost use Rattle.st_marks.specs.Document.{Document};
+ghost use Rattle.st_marks.specs.CarryOut.{full};
+ghost use Rattle.st_marks.specs.Document.{Document, HasShortRows, IsSoundInForm};
+ghost use Rattle.st_marks.specs.Embedding.{IsEmbedding};
+ghost use Rattle.st_marks.specs.Intent.{Fits};
 ghost use Rattle.st_marks.specs.Run.{Run};
 ghost use Rattle.st_marks.specs.Verdict.{carried_document};
-ghost use Rattle.st_change_laws.specs.Within.{DocumentIsWithin, IntentIsWithin};
+ghost use Rattle.st_change_laws.specs.Within.{ChangeIsWithin, DocumentIsWithin, IntentIsWithin};
 
 use crate::kinds::NameKind;
 
@@ -19,4 +23,13 @@ pub fn documents_stay_within<K: NameKind>()
     ensures run { (k : K) (D E : Document) (Ns : List Intent)
         → DocumentIsWithin (K.atoms k) D → AllByRecursion (IntentIsWithin (K.atoms k)) Ns → Run D Ns E
         → DocumentIsWithin (K.atoms k) E }
+{}
+
+/// The change of an intent that can be told, in a document whose names are of the kind, can be told:
+/// where the intent fits, leaves rows short, has a revision of the kind, and was made under one.
+pub fn changes_are_within<K: NameKind>()
+    ensures { (k : K) (D : Document) (N : Intent) (C : Change)
+        → IsSoundInForm D → DocumentIsWithin (K.atoms k) D → IntentIsWithin (K.atoms k) N
+        → Fits D N → HasShortRows (full D N) → K.revs k N.rev → K.revs k N.under → IsEmbedding D N C
+        → ChangeIsWithin (K.revs k) (K.atoms k) C }
 {}

@@ -1,8 +1,8 @@
-//! Intents that can be told keep documents so. Laws about the definitions in `st_change_laws`.
+//! Intents that can be told keep documents so, and their changes can be told. Laws about the definitions in `st_change_laws`.
 #![tactic(auto)]
 
 mod kinds;
 mod laws;
 
 pub use kinds::{NameKind, ShortNames};
-pub use laws::documents_stay_within;
+pub use laws::{changes_are_within, documents_stay_within};
