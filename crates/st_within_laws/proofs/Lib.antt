@@ -1,3 +1,4 @@
 pub mod Documents
 pub mod MarksWithin
 pub mod ChangesWithin
+pub mod Revisions

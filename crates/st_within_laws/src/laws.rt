@@ -1,15 +1,19 @@
 //! Laws on what can be told of intents, documents and changes: each is the contract of a function that does nothing.
-ghost use Rattle.std.specs.Prelude.{List};
+ghost use Rattle.std.specs.Prelude.{◌<◌, ◌^◌, List};
 ghost use Rattle.std.specs.List.{AllByRecursion};
+ghost use Rattle.st_ids.specs.Listing.{Has};
+ghost use Rattle.st_ids.specs.declared.names.Atom.{Atom};
+ghost use Rattle.st_ids.specs.declared.names.Rev.{Rev};
 ghost use Rattle.st_marks.specs.declared.changes.Change.{Change};
 ghost use Rattle.st_marks.specs.declared.intents.Intent.{Intent};
 ghost use Rattle.st_marks.specs.declared.verdicts.Verdict.{Verdict};
 ghost use Rattle.st_marks.specs.CarryOut.{full};
 ghost use Rattle.st_marks.specs.Document.{Document, HasShortRows, IsSoundInForm};
 ghost use Rattle.st_marks.specs.Embedding.{IsEmbedding};
-ghost use Rattle.st_marks.specs.Intent.{Fits};
+ghost use Rattle.st_marks.specs.Intent.{Fits, IsIntent};
 ghost use Rattle.st_marks.specs.Run.{Run};
 ghost use Rattle.st_marks.specs.Verdict.{carried_document};
+ghost use Rattle.st_log_laws.specs.Names.{IsMadeUnder};
 ghost use Rattle.st_change_laws.specs.Within.{ChangeIsWithin, DocumentIsWithin, IntentIsWithin};
 
 use crate::kinds::NameKind;
@@ -32,4 +36,19 @@ pub fn changes_are_within<K: NameKind>()
         → IsSoundInForm D → DocumentIsWithin (K.atoms k) D → IntentIsWithin (K.atoms k) N
         → Fits D N → HasShortRows (full D N) → K.revs k N.rev → K.revs k N.under → IsEmbedding D N C
         → ChangeIsWithin (K.revs k) (K.atoms k) C }
+{}
+
+/// The names that an intent makes have its revision, and each name of a document has one under which
+/// the document was made. So where these are of a kind, and with them each atom whose place is below
+/// 2^32, names whose places are below 2^32 are of the kind.
+pub fn intents_are_within_their_revision<K: NameKind>()
+    ensures intent { (k : K) (N : Intent)
+        → ((a : Atom) → K.revs k a.rev → a.at < 2 ^ 32 → K.atoms k a)
+        → IsIntent N → K.revs k N.rev → IntentIsWithin (λ a. a.at < 2 ^ 32) N
+        → IntentIsWithin (K.atoms k) N }
+    ensures document { (k : K) (rs : List Rev) (D : Document)
+        → ((a : Atom) → K.revs k a.rev → a.at < 2 ^ 32 → K.atoms k a)
+        → ((r : Rev) → Has rs r → K.revs k r) → IsMadeUnder rs D
+        → DocumentIsWithin (λ a. a.at < 2 ^ 32) D
+        → DocumentIsWithin (K.atoms k) D }
 {}

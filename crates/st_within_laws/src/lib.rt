@@ -5,4 +5,4 @@ mod kinds;
 mod laws;
 
 pub use kinds::{NameKind, ShortNames};
-pub use laws::{changes_are_within, documents_stay_within};
+pub use laws::{changes_are_within, documents_stay_within, intents_are_within_their_revision};
