@@ -2,3 +2,4 @@ pub mod Documents
 pub mod MarksWithin
 pub mod ChangesWithin
 pub mod Revisions
+pub mod RowBounds

@@ -1,8 +1,9 @@
 //! Laws on what can be told of intents, documents and changes: each is the contract of a function that does nothing.
-ghost use Rattle.std.specs.Prelude.{◌<◌, ◌^◌, List};
+ghost use Rattle.std.specs.Prelude.{◌+◌, ◌++◌, ◌<◌, ◌≤◌, ◌^◌, List, [], ◌∷◌, length};
 ghost use Rattle.std.specs.List.{AllByRecursion};
 ghost use Rattle.st_ids.specs.Listing.{Has};
 ghost use Rattle.st_ids.specs.declared.names.Atom.{Atom};
+ghost use Rattle.st_ids.specs.declared.names.NodeId.{NodeId};
 ghost use Rattle.st_ids.specs.declared.names.Rev.{Rev};
 ghost use Rattle.st_marks.specs.declared.changes.Change.{Change};
 ghost use Rattle.st_marks.specs.declared.intents.Intent.{Intent};
@@ -14,6 +15,7 @@ ghost use Rattle.st_marks.specs.Intent.{Fits, IsIntent};
 ghost use Rattle.st_marks.specs.Run.{Run};
 ghost use Rattle.st_marks.specs.Verdict.{carried_document};
 ghost use Rattle.st_log_laws.specs.Names.{IsMadeUnder};
+ghost use Rattle.st_log_laws.specs.Turns.{FitInTurn, cells_made};
 ghost use Rattle.st_change_laws.specs.Within.{ChangeIsWithin, DocumentIsWithin, IntentIsWithin};
 
 use crate::kinds::NameKind;
@@ -51,4 +53,15 @@ pub fn intents_are_within_their_revision<K: NameKind>()
         → ((r : Rev) → Has rs r → K.revs k r) → IsMadeUnder rs D
         → DocumentIsWithin (λ a. a.at < 2 ^ 32) D
         → DocumentIsWithin (K.atoms k) D }
+{}
+
+/// A row grows by so many cells at most as intents make: in a run of them, and with one more that is
+/// carried out whole.
+pub fn rows_stay_short()
+    ensures run { (D E : Document) (Ns : List Intent) (n : NodeId)
+        → IsSoundInForm D → FitInTurn D Ns → Run D Ns E
+        → length (E.rows n) ≤ length (D.rows n) + cells_made Ns }
+    ensures full { (D E : Document) (Ns : List Intent) (N : Intent) (n : NodeId)
+        → IsSoundInForm D → FitInTurn D Ns → Run D Ns E → Fits E N
+        → length ((full E N).rows n) ≤ length (D.rows n) + cells_made (Ns ++ N ∷ []) }
 {}

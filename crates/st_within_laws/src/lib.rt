@@ -5,4 +5,6 @@ mod kinds;
 mod laws;
 
 pub use kinds::{NameKind, ShortNames};
-pub use laws::{changes_are_within, documents_stay_within, intents_are_within_their_revision};
+pub use laws::{
+    changes_are_within, documents_stay_within, intents_are_within_their_revision, rows_stay_short,
+};
