@@ -3,3 +3,4 @@ pub mod MarksWithin
 pub mod ChangesWithin
 pub mod Revisions
 pub mod RowBounds
+pub mod ShortTexts

@@ -16,6 +16,7 @@ ghost use Rattle.st_marks.specs.Run.{Run};
 ghost use Rattle.st_marks.specs.Verdict.{carried_document};
 ghost use Rattle.st_log_laws.specs.Names.{IsMadeUnder};
 ghost use Rattle.st_log_laws.specs.Turns.{FitInTurn, cells_made};
+ghost use Rattle.st_normal_texts.specs.NormalTexts.{IsNormalText};
 ghost use Rattle.st_change_laws.specs.Within.{ChangeIsWithin, DocumentIsWithin, IntentIsWithin};
 
 use crate::kinds::NameKind;
@@ -64,4 +65,12 @@ pub fn rows_stay_short()
     ensures full { (D E : Document) (Ns : List Intent) (N : Intent) (n : NodeId)
         → IsSoundInForm D → FitInTurn D Ns → Run D Ns E → Fits E N
         → length ((full E N).rows n) ≤ length (D.rows n) + cells_made (Ns ++ N ∷ []) }
+{}
+
+/// Where an intent leaves each row with fewer than 2^31 cells, its change is normal as a text.
+pub fn changes_are_normal_texts()
+    ensures { (D : Document) (N : Intent) (C : Change)
+        → IsSoundInForm D → Fits D N → ((n : NodeId) → length ((full D N).rows n) < 2 ^ 31)
+        → IsEmbedding D N C
+        → IsNormalText C }
 {}
