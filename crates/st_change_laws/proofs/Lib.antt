@@ -2,7 +2,7 @@ mod ReadValues
 mod Members
 mod Changes
 mod Plain
-mod ToldValues
+pub mod ToldValues
 mod Before
 mod Steps
 mod ToldSteps
