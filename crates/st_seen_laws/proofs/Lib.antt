@@ -1,0 +1,5 @@
+pub mod Bounds
+pub mod IdsOfNumbers
+pub mod Seen
+pub mod OtherForms
+pub mod Reading
