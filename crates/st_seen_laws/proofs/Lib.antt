@@ -1,4 +1,5 @@
 pub mod Bounds
+pub mod InLogs
 pub mod IdsOfNumbers
 pub mod Seen
 pub mod OtherForms

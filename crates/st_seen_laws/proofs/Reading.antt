@@ -26,7 +26,7 @@ use Rattle.st_valid.specs.declared.message.Message.{Message}
 use Rattle.st_valid.specs.declared.message.Said.{Said}
 use Rattle.st_valid.specs.declared.message.Said.TheVariants as said
 use Rattle.st_valid_laws.specs.Shape.{IsChangeRead, IsRead, IsReadSo, IsSaid, form_of_ids, message_with, seen_id}
-use Rattle.st_seen_laws.specs.Told.{HaveFewIds, CanBeTold, CanSay, IsNameKnown, IsReadBack, Tells, TellsSaid}
+use Rattle.st_seen_laws.specs.Told.{CanBeTold, CanSay, HaveFewIds, IsNameKnown, IsReadBack, Tells, TellsSaid}
 use Rattle.st_seen_laws.proofs.OtherForms.{Covers, change, one}
 use Rattle.st_seen_laws.proofs.Seen.{name_read_back}
 

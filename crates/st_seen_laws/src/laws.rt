@@ -1,18 +1,28 @@
 //! Laws on what an author tells beside a log: each is the contract of a function that does nothing.
-ghost use Rattle.std.specs.Prelude.{◌≤◌, ◌+◌, ◌^◌, ℕ, List, Some};
+ghost use Rattle.std.specs.Prelude.{◌≡◌, ◌≤◌, ◌+◌, ◌^◌, ℕ, List, Some, slice_get, take};
 ghost use Rattle.st_change_writer.specs.Told.{change_data};
 ghost use Rattle.st_clusters.specs.declared.ids.IdRange.{IdRange};
 ghost use Rattle.st_ids.specs.declared.names.Rev.{Rev};
 ghost use Rattle.st_lists.specs.Log.{ranges_in};
+ghost use Rattle.st_lists.specs.declared.lists.Body.TheVariants.{Commit};
 ghost use Rattle.st_lists.specs.declared.lists.Entry.{Entry};
 ghost use Rattle.st_marks.specs.declared.changes.Change.{Change};
+ghost use Rattle.st_marks.specs.declared.intents.Intent.{Intent};
 ghost use Rattle.st_msg.specs.Messages.{MessageView, message_data};
 ghost use Rattle.st_msg.specs.Within.{IsWithin};
 ghost use Rattle.st_normal_texts.specs.NormalTexts.{IsNormalText};
-ghost use Rattle.st_seen_laws.specs.Told.{HaveFewIds, CanBeTold, CanSay, IsNameKnown, IsReadBack, Tells};
+ghost use Rattle.st_seen_laws.specs.Told.{CanBeTold, CanSay, HaveFewIds, IsNameKnown, IsReadBack, Tells};
 ghost use Rattle.st_texts.specs.Names.{names_seen};
 ghost use Rattle.st_valid.specs.declared.message.Message.{Message};
 ghost use Rattle.st_valid_laws.specs.Shape.{IsChangeRead, IsRead};
+
+/// Where a log has few ids, so have the entries before each of its texts, and the ids that the text
+/// carries are below 2^32: what the laws below ask of a log and a text.
+pub fn texts_have_few_ids()
+    ensures { (log : List Entry) (i : ℕ) (e : Entry) (reference : ℕ) (ids : IdRange) (N : Intent)
+        → HaveFewIds (ranges_in log) → slice_get log i ≡ Some e → e.body ≡ Commit reference ids N
+        → HaveFewIds (ranges_in (take i log)) × (ids.first + ids.count ≤ 2 ^ 32) }
+{}
 
 /// Each name that the author of a text knows is told by a number of 64 bits, and that number is read
 /// beside the log as the name, where the ids that the text carries are below 2^32.

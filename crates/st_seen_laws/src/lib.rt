@@ -3,4 +3,6 @@
 
 mod laws;
 
-pub use laws::{seen_names_are_read_back, told_changes_are_read, told_messages_are_read};
+pub use laws::{
+    seen_names_are_read_back, texts_have_few_ids, told_changes_are_read, told_messages_are_read,
+};
