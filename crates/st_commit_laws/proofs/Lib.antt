@@ -6,3 +6,4 @@ mod Back
 mod Opening
 mod Clients
 mod Going
+mod Lines

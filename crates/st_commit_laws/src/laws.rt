@@ -5,6 +5,7 @@ ghost use Rattle.st_change_laws.specs.Within.{DocumentIsWithin};
 ghost use Rattle.st_lists.specs.Clients.{empty_state};
 ghost use Rattle.st_lists.specs.declared.lists.WorldState.{WorldState};
 ghost use Rattle.st_script.specs.Header.{HeaderView};
+ghost use Rattle.st_script.specs.StepText.{FitsLine};
 ghost use Rattle.st_script.specs.Steps.{StepView};
 ghost use Rattle.st_script.specs.declared.answer.Answer.{Answer};
 ghost use Rattle.st_world.specs.World.{IsNext, opening_document};
@@ -26,6 +27,11 @@ pub fn commits_go_on_tellable()
     ensures { (h : HeaderView) (w v : WorldState) (s : StepView) (a : Answer) → IsWorld h w
         → CommitsAreTellable w → KeepsRules s.act → BringsShortLeaves s.act → IsNext h w s v a
         → CommitsAreTellable v }
+{}
+
+/// A step that a line can hold brings no number that isn't one of 64 bits.
+pub fn lines_bring_short_leaves()
+    ensures { (s : StepView) → FitsLine s → BringsShortLeaves s.act }
 {}
 
 /// No row of the opening document has more cells than a tree may have nodes.

@@ -3,4 +3,7 @@
 
 mod laws;
 
-pub use laws::{commits_begin_tellable, commits_go_on_tellable, opening_rows_are_short};
+pub use laws::{
+    commits_begin_tellable, commits_go_on_tellable, lines_bring_short_leaves,
+    opening_rows_are_short,
+};
