@@ -1,9 +1,9 @@
-mod Keys
-mod Trees
-mod Edits
-mod Joined
-mod Back
-mod Opening
-mod Clients
-mod Going
-mod Lines
+pub mod Keys
+pub mod Trees
+pub mod Edits
+pub mod Joined
+pub mod Back
+pub mod Opening
+pub mod Clients
+pub mod Going
+pub mod Lines
