@@ -24,7 +24,7 @@ use Rattle.st_marks.specs.declared.schemas.SchemaEntry.{SchemaEntry}
 use Rattle.st_marks.specs.declared.verdicts.Verdict.{Verdict}
 use Rattle.st_marks.specs.CarryOut.{with_names}
 use Rattle.st_marks.specs.Document.{Document, last_of, revs}
-use Rattle.st_marks.specs.Intent.{Fits, IsIntent, IsKnown, clears, is_new, put_in, put_of, same_option}
+use Rattle.st_marks.specs.Intent.{Fits, IsIntent, IsKnown, is_new, put_in, put_of, same_option}
 use Rattle.st_marks.specs.Run.{Run, done, next}
 use Rattle.st_marks.specs.Verdict.{IsBaseInEffect, carried_document}
 use Rattle.st_marks.proofs.Full.{known_put}

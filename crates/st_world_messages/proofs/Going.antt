@@ -25,7 +25,7 @@ use Rattle.st_author_lists.proofs.Going.{authors_next}
 use Rattle.st_author_lists.proofs.Written.{begun_authors}
 use Rattle.st_carried_ids.proofs.Few.{few_next}
 use Rattle.st_world_messages.specs.Order.{AreALine, SendsInOrder, SpeaksInOrder}
-use Rattle.st_world_messages.specs.Steps.{BringsVersion4}
+use Rattle.st_world_messages.specs.Steps.{BringsVersion4, IsVersion4}
 use Rattle.st_world_messages.proofs.Ordered.{begun_order, order_after}
 use Rattle.st_world_messages.proofs.Over.{begun_written, written_after}
 use Rattle.st_world_messages.proofs.Walk.{leads_on}
@@ -62,11 +62,11 @@ begun h k = record { world = begun_sound h k; authors = begun_authors h; order =
 pub goes_in_order : (h : HeaderView) (n : ℕ) (w v : WorldState) (s : StepView) (a : Answer) → SendsInOrder h n w → KeepsRules s.act → BringsVersion4 s.act → IsNext h w s v a → SendsInOrder h (n + 1) v
 goes_in_order h n w v s a x rules v4 next =
     let t = goes_on h w x.world v a s rules next in
-    let leads = leads_on h w v s a x.world v4 next in
+    let leads = leads_on IsVersion4 h w v s a x.world v4 next in
     let low = all_as (SpeaksInOrder n w.log) (λ (c : Client). c.ids ≤ n) w.clients (λ c p. p.ids) x.order.clients in
     record {
       world = t;
       authors = authors_next h w v s a x.world x.authors rules next;
       order = order_after h n w v x.world x.order leads (few_next h w v s a n x.world low x.order.carried next);
-      schemas = written_after (AreALine h) (line_front h) h w v x.world t x.schemas (shown_line h v t) leads;
+      schemas = written_after IsVersion4 (AreALine h) (line_front h) h w v x.world t x.schemas (shown_line h v t) leads;
     }

@@ -7,3 +7,6 @@ mod Names
 mod Tests
 mod Going
 mod BySchema
+mod Uuids
+mod Texts
+mod Replayed

@@ -1,5 +1,5 @@
 -- Whatever a step leads to, all comes in order again.
-use Rattle.std.proofs.Common.{◌≡◌, ◌≢◌, ◌≤◌, ◌<◌, ◌+◌, ◌*◌, ◌^◌, ◌==◌, ◌&&◌, ℕ, true, false, List, [], ◌∷◌, ◌++◌, length, length-append, not, Option, Some, None, inl, inr, refl, sym, ap, ◌∙◌, subst, arith}
+use Rattle.std.proofs.Common.{◌≡◌, ◌≢◌, ◌≤◌, ◌<◌, ◌+◌, ◌*◌, ◌^◌, ◌==◌, ◌&&◌, ℕ, true, false, List, [], ◌∷◌, ◌++◌, length, length-append, not, Option, Some, None, IfSome, inl, inr, refl, sym, ap, ◌∙◌, subst, arith}
 use Rattle.std.specs.List.{AllByRecursion, remove, slice_get, slice_set}
 use Rattle.std.proofs.lemmas.Bool.Decides.{nat_tests}
 use Rattle.st_lemmas.proofs.Bools.{and-both, or-left, or-right}
@@ -32,7 +32,7 @@ use Rattle.st_world_laws.proofs.Clients.{queue_first}
 use Rattle.st_world_laws.proofs.Entering.{within_log}
 use Rattle.st_world_laws.proofs.Everyone.{all_as, all_get, all_set}
 use Rattle.st_world_messages.specs.Order.{EntersInOrder, IsOrdered, Rise, SpeaksInOrder}
-use Rattle.st_world_messages.specs.Steps.{GoesOn, IsOfVersion4, LeadsTo, RefersTo, drops, goes, joins, leaves, own_commits, returns, sends, stays}
+use Rattle.st_world_messages.specs.Steps.{GoesOn, IsVersion4, LeadsTo, RefersTo, drops, goes, joins, leaves, own_commits, returns, sends, stays}
 use Rattle.st_world_messages.proofs.Counts.{all_but_gone, all_but_set, connected_few, connected_fewer, each_more, known_beside, known_own, known_within, nothing_yet, set_size}
 use Rattle.st_world_messages.proofs.Over.{refer_anew}
 
@@ -304,7 +304,7 @@ module _ (h : HeaderView) (n : ℕ) (w : WorldState) (s : IsWorld h w) (o : IsOr
 
   -- ## A new one joins
 
-  module _ (name : List ℕ) (told : Option ℕ) (v4 : IsOfVersion4 told) (few_clients : length w.clients < 64) (few : length w.log < 65535) (apart : clashes (uuid_for (sessions_in w.log + 1) told) w.log ≡ false) where
+  module _ (name : List ℕ) (told : Option ℕ) (v4 : IfSome told IsVersion4) (few_clients : length w.clients < 64) (few : length w.log < 65535) (apart : clashes (uuid_for (sessions_in w.log + 1) told) w.log ≡ false) where
     abbrev session : ℕ
     session = sessions_in w.log + 1
 
@@ -317,7 +317,7 @@ module _ (h : HeaderView) (n : ℕ) (w : WorldState) (s : IsWorld h w) (o : IsOr
     abbrev new : Client
     new = new_client (length w.log + 1) session uuid name
 
-    is_it : (t : Option ℕ) → IsOfVersion4 t → is_v4 (uuid_for session t) ≡ true
+    is_it : (t : Option ℕ) → IfSome t IsVersion4 → is_v4 (uuid_for session t) ≡ true
     is_it None x = uuid_is_v4 (session * 2 ^ 64) (omega (arith, o.sessions, few))
     is_it (Some u) x = x
 
@@ -363,7 +363,7 @@ module _ (h : HeaderView) (n : ℕ) (w : WorldState) (s : IsWorld h w) (o : IsOr
             beside_all [] f p = tt
             beside_all (d ∷ cs) f p = (beside n w.log session (Join uuid) d (f d (inl refl)) p.0, beside_all cs (λ e i. f e (inr i)) p.1)
 
-  after : (v : WorldState) → LeadsTo w v → CarryFew n v.log → IsOrdered (n + 1) v
+  after : (v : WorldState) → LeadsTo IsVersion4 w v → CarryFew n v.log → IsOrdered (n + 1) v
   after v stays few = record {
     log = o.log;
     clients = all_later;
@@ -381,5 +381,5 @@ module _ (h : HeaderView) (n : ℕ) (w : WorldState) (s : IsWorld h w) (o : IsOr
   after v (joins name told v4 clients room apart) few = joined name told v4 clients room apart few
 
 -- after one step more
-pub order_after : (h : HeaderView) (n : ℕ) (w v : WorldState) → IsWorld h w → IsOrdered n w → LeadsTo w v → CarryFew n v.log → IsOrdered (n + 1) v
+pub order_after : (h : HeaderView) (n : ℕ) (w v : WorldState) → IsWorld h w → IsOrdered n w → LeadsTo IsVersion4 w v → CarryFew n v.log → IsOrdered (n + 1) v
 order_after h n w v s o leads few = after h n w s o v leads few

@@ -140,35 +140,35 @@ module _ (P : List Intent → Type 0) where
           let same : commits_of longer (main_line d) ≡ (A ++ []) ++ intents_of d.queue = sym (writes_over longer d (writer h longer d k) refl) ∙ ap (λ l. l ++ intents_of d.queue) (sym (append-nil A)) in
           texts_at longer c.session d.received [] d.queue k.within (refer_anew (length w.log + 1) c.session (carried_of w.log c) c.ids (waiting w.log c)) (subst P same shown)
 
-      after : (v : WorldState) → IsWorld h v → ((d : Client) → Has v.clients d → P (commits_of v.log (main_line d))) → LeadsTo w v → EachIsWrittenSo P v
-      after v t shown stays = f
-      after v t shown (goes i c d at g) = record {
+      after : (U : ℕ → Type 0) (v : WorldState) → IsWorld h v → ((d : Client) → Has v.clients d → P (commits_of v.log (main_line d))) → LeadsTo U w v → EachIsWrittenSo P v
+      after U v t shown stays = f
+      after U v t shown (goes i c d at g) = record {
         log = f.log;
         waiting = all_set (Waits w.log) w.clients i d f.waiting (let there = set_here w.clients i c d at in
             went c d g (all-has (IsClient h w.log) (slice_set w.clients i d) d t.clients there) (shown d there) (all_get (Waits w.log) w.clients i c f.waiting at));
       }
-      after v t shown (sends i c text rest at on is room) =
+      after U v t shown (sends i c text rest at on is room) =
           let queue = subst (AreWrittenSo P w.log c.session []) is (all_get (Waits w.log) w.clients i c f.waiting at) in
           record {
             log = logged c.session text queue.0;
             waiting = all_but_set (Waits w.log) (Waits (log_with w.log c.session text)) w.clients i c (record c { queue = rest }) s.sessions at (beside_other c.session text) (rest_written w.log c.session text rest queue) f.waiting;
           }
-      after v t shown (leaves i c at on room) = record {
+      after U v t shown (leaves i c at on room) = record {
         log = logged c.session Leave tt;
         waiting = all_but_gone (Waits w.log) (Waits (log_with w.log c.session Leave)) w.clients i c s.sessions at (beside_other c.session Leave) f.waiting;
       }
-      after v t shown (drops i c at on room) = record {
+      after U v t shown (drops i c at on room) = record {
         log = logged c.session Leave tt;
         waiting = all_but_set (Waits w.log) (Waits (log_with w.log c.session Leave)) w.clients i c (without_connection c) s.sessions at (beside_other c.session Leave) tt f.waiting;
       }
-      after v t shown (returns i c at off room) = record {
+      after U v t shown (returns i c at off room) = record {
         log = logged c.session (Join c.uuid) tt;
         waiting = all_but_set (Waits w.log) (Waits (log_with w.log c.session (Join c.uuid))) w.clients i c (with_connection w.log c) s.sessions at (beside_other c.session (Join c.uuid))
             (let there = set_here w.clients i c (with_connection w.log c) at in
             returned c (all-has (IsClient h (log_with w.log c.session (Join c.uuid))) (slice_set w.clients i (with_connection w.log c)) (with_connection w.log c) t.clients there) (shown (with_connection w.log c) there))
             f.waiting;
       }
-      after v t shown (joins name told v4 clients room apart) =
+      after U v t shown (joins name told v4 clients room apart) =
           let session = sessions_in w.log + 1 in
           let uuid = uuid_for session told in
           record {
@@ -178,9 +178,9 @@ module _ (P : List Intent → Type 0) where
           }
 
 -- after one step more
-pub written_after : (P : List Intent → Type 0) → ((xs ys : List Intent) → P (xs ++ ys) → P xs) → (h : HeaderView) (w v : WorldState) → IsWorld h w → IsWorld h v → EachIsWrittenSo P w
-    → ((d : Client) → Has v.clients d → P (commits_of v.log (main_line d))) → LeadsTo w v → EachIsWrittenSo P v
-written_after P front h w v s t f shown leads = after P front h w s f v t shown leads
+pub written_after : (U : ℕ → Type 0) (P : List Intent → Type 0) → ((xs ys : List Intent) → P (xs ++ ys) → P xs) → (h : HeaderView) (w v : WorldState) → IsWorld h w → IsWorld h v → EachIsWrittenSo P w
+    → ((d : Client) → Has v.clients d → P (commits_of v.log (main_line d))) → LeadsTo U w v → EachIsWrittenSo P v
+written_after U P front h w v s t f shown leads = after P front h w s f U v t shown leads
 
 pub begun_written : (P : List Intent → Type 0) → EachIsWrittenSo P empty_state
 begun_written P = record { log = nothing_yet (λ log e. IsWrittenSo P log e.session [] e.body); waiting = tt }

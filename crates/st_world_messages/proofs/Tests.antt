@@ -62,7 +62,8 @@ use Rattle.st_world_laws.specs.Worlds.{HasOwnIds, IsEntryOf}
 use Rattle.st_world_laws.proofs.Everyone.{all_get, past}
 use Rattle.st_author_lists.specs.Authors.{IsWritten}
 use Rattle.st_author_lists.proofs.Fitted.{logged_written}
-use Rattle.st_world_messages.specs.Messages.{IsMessageAt, IsWrittenAs, SaysAs, Tells, TellsSaid}
+use Rattle.st_seen_laws.specs.Told.{Tells, TellsSaid}
+use Rattle.st_world_messages.specs.Messages.{IsMessageAt, IsWrittenAs, SaysAs}
 use Rattle.st_world_messages.specs.Order.{AreALine, EntersInOrder, HasRoom, IsWrittenSo, MaySay, Refers, SendsInOrder}
 use Rattle.st_world_messages.proofs.Counts.{least_known}
 use Rattle.st_world_messages.proofs.Names.{few_names}
@@ -77,7 +78,7 @@ says_alike O log s (Ack reference) x is = subst (λ y. SayAlike (Ack reference) 
 says_alike O log s (Commit reference ids N) x is = subst (λ y. SayAlike (Commit reference ids N) (body_without_change y)) (sym is.2) (record { reference = λ n. refl; connected = λ b. refl })
 
 -- something that a message says is found by what its entry says
-by_body : (Q : Said → Type 0) (O : Document) (log : List Entry) (s : ℕ) (b : Body) (x : Said) → ((uuid : ℕ) → b ≡ Join uuid → Q (said.Join uuid)) → (b ≡ Leave → Q said.Leave) → ((reference : ℕ) → b ≡ Ack reference → Q (said.Ack reference))
+pub by_body : (Q : Said → Type 0) (O : Document) (log : List Entry) (s : ℕ) (b : Body) (x : Said) → ((uuid : ℕ) → b ≡ Join uuid → Q (said.Join uuid)) → (b ≡ Leave → Q said.Leave) → ((reference : ℕ) → b ≡ Ack reference → Q (said.Ack reference))
     → ((reference : ℕ) (ids : IdRange) (N : Intent) (C : Change) → b ≡ Commit reference ids N → IsWrittenAs O log s reference N C → Q (said.Commit reference ids (Some C))) → SaysAs O log s b x → Q x
 by_body Q O log s (Join uuid) x join leave ack commit is = subst Q (sym is) (join uuid refl)
 by_body Q O log s Leave x join leave ack commit is = subst Q (sym is) (leave refl)
@@ -175,7 +176,7 @@ module _ (h : HeaderView) (n : ℕ) (w : WorldState) (x : SendsInOrder h n w) (i
   last : e ≡ last_entry L e.session e.body
   last = λ j. record { n = order.number j; session = e.session; body = e.body }
 
-  upto : take (i + 1) w.log ≡ log_with L e.session e.body
+  pub upto : take (i + 1) w.log ≡ log_with L e.session e.body
   upto = take-get w.log i e at.there ∙ ap (λ (y : Entry). L ++ y ∷ []) last
 
   pub in_sequence : Passes O L m cause.Sequence
@@ -224,7 +225,7 @@ module _ (h : HeaderView) (n : ℕ) (w : WorldState) (x : SendsInOrder h n w) (i
     range : range_of e ≡ Some ids
     range = ap range_in is
 
-    its : ids.session ≡ e.session
+    pub its : ids.session ≡ e.session
     its = subst (λ o. IfSome o (λ (r : IdRange). r.session ≡ e.session)) range (all_get HasOwnIds w.log i e x.world.own_ids at.there)
 
     ranges_upto : ranges_in (take (i + 1) w.log) ≡ ranges_in L ++ ids ∷ []
@@ -235,14 +236,14 @@ module _ (h : HeaderView) (n : ℕ) (w : WorldState) (x : SendsInOrder h n w) (i
         ap ranges_in (sym (take-append-drop (i + 1) w.log)) ∙ filter_map-append range_of (take (i + 1) w.log) (drop (i + 1) w.log)
         ∙ ap (λ l. l ++ ranges_in (drop (i + 1) w.log)) ranges_upto
 
-    first : ids.first ≡ carried_in L e.session + 1
+    pub first : ids.first ≡ carried_in L e.session + 1
     first =
         let R = ranges_in L in
         let more = ranges_in (drop (i + 1) w.log) in
         let turn = subst AreInTurn (ranges_whole ∙ append_assoc R (ids ∷ []) more) x.world.ranges in
         (front_in_turn [] R (ids ∷ more) turn).1 ∙ ap (λ s. carried_count s R + 1) its
 
-    count : carried_in L e.session + ids.count ≤ n
+    pub count : carried_in L e.session + ids.count ≤ n
     count =
         let R = ranges_in L in
         let more = ranges_in (drop (i + 1) w.log) in
@@ -254,7 +255,7 @@ module _ (h : HeaderView) (n : ℕ) (w : WorldState) (x : SendsInOrder h n w) (i
     commits_upto : commits_in (take (i + 1) w.log) ≡ commits_in L ++ N ∷ []
     commits_upto = ap commits_in (take-get w.log i e at.there) ∙ filter_map-append commit_of L (e ∷ []) ∙ ap (λ b. commits_in L ++ cons_option (commit_in b) []) is
 
-    commits_whole : commits_in w.log ≡ (commits_in L ++ N ∷ []) ++ commits_in (drop (i + 1) w.log)
+    pub commits_whole : commits_in w.log ≡ (commits_in L ++ N ∷ []) ++ commits_in (drop (i + 1) w.log)
     commits_whole = commits_split (i + 1) w.log ∙ ap (λ l. l ++ commits_in (drop (i + 1) w.log)) commits_upto
 
     own : N.rev.session ≡ e.session
@@ -287,7 +288,7 @@ module _ (h : HeaderView) (n : ℕ) (w : WorldState) (x : SendsInOrder h n w) (i
       author : written.author ≡ z.author
       author = one_run written.stands z.stands
 
-      fits : Fits z.author N
+      pub fits : Fits z.author N
       fits = subst (λ D. Fits D N) author written.fits
 
       -- it keeps to its schema
@@ -329,7 +330,7 @@ module _ (h : HeaderView) (n : ℕ) (w : WorldState) (x : SendsInOrder h n w) (i
           let a : nat_le (names_of_change C) 2048 ≡ true = let low = few.1 in grind (arith, nat_tests, names, low) in
           and-both (nat_le (names_of_change C) 2048) (not (is_some (log_limit_passed L (names_of_change C)))) a (names_room L (names_of_change C) few.0 (omega (arith, names, names_low))))
 
-      context : HasContext O L e.session reference C
+      pub context : HasContext O L e.session reference C
       context = record {
         meant = record { document = z.author; ran = z.stands; intent = N; fits = fits; embeds = z.embeds };
         under = subst (Has (known_revisions (author_list L e.session reference))) (sym z.embeds.under) known;
@@ -402,7 +403,7 @@ module _ (h : HeaderView) (n : ℕ) (w : WorldState) (x : SendsInOrder h n w) (i
 
 module _ (h : HeaderView) (n : ℕ) (w : WorldState) (x : SendsInOrder h n w) where
   -- an entry is what its message says
-  body_said : (i : ℕ) (m : Message) (at : IsMessageAt (opening_document h) w.log i m) → IsBodyOf (opening_document h) (take i w.log) m.session m.said at.entry.body
+  pub body_said : (i : ℕ) (m : Message) (at : IsMessageAt (opening_document h) w.log i m) → IsBodyOf (opening_document h) (take i w.log) m.session m.said at.entry.body
   body_said i m at = subst (λ s. IsBodyOf O L s m.said at.entry.body) (sym at.session) (by_body (λ y. IsBodyOf O L at.entry.session y at.entry.body) O L at.entry.session at.entry.body m.said
       (λ uuid is. is) (λ is. is) (λ reference is. is)
       (λ reference ids N C is z. (record { document = z.author; ran = z.stands; intent = N; fits = fits h n w x i m at reference ids N is C z; embeds = z.embeds }, is)) at.says)

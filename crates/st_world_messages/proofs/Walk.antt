@@ -48,7 +48,7 @@ use Rattle.st_world_laws.proofs.Among.{line_transaction}
 use Rattle.st_world_laws.proofs.Begun.{opened_start}
 use Rattle.st_world_laws.proofs.Entering.{may_reconnect, within_entries}
 use Rattle.st_world_laws.proofs.Everyone.{all_get}
-use Rattle.st_world_messages.specs.Steps.{BringsVersion4, GoesOn, IsOfVersion4, LeadsTo, RefersTo, drops, goes, joins, leaves, own_commits, returns, sends, stays}
+use Rattle.st_world_messages.specs.Steps.{Brings, GoesOn, LeadsTo, RefersTo, drops, goes, joins, leaves, own_commits, returns, sends, stays}
 use Rattle.st_world_messages.proofs.Small.{back_small, edit_small, edited_small}
 
 -- ## Commits of branches
@@ -275,24 +275,24 @@ found_there p (x ∷ xs) b e = go (p x) (found_there p xs b) e
 
 -- ## Steps
 
-module _ (h : HeaderView) (w : WorldState) (s : IsWorld h w) (v : WorldState) (a : Answer) where
+module _ (U : ℕ → Type 0) (h : HeaderView) (w : WorldState) (s : IsWorld h w) (v : WorldState) (a : Answer) where
   abbrev O : Document
   O = opening_document h
 
-  kept : v ≡ w → LeadsTo w v
-  kept e = subst (LeadsTo w) (sym e) stays
+  kept : v ≡ w → LeadsTo U w v
+  kept e = subst (LeadsTo U w) (sym e) stays
 
-  as_told : (p : WorldState × Answer) → p ≡ (v, a) → LeadsTo w p.0 → LeadsTo w v
-  as_told p e x = subst (LeadsTo w) (ap (λ (q : WorldState × Answer). q.0) e) x
+  as_told : (p : WorldState × Answer) → p ≡ (v, a) → LeadsTo U w p.0 → LeadsTo U w v
+  as_told p e x = subst (LeadsTo U w) (ap (λ (q : WorldState × Answer). q.0) e) x
 
   module _ (i : ℕ) (c : Client) (at : slice_get w.clients i ≡ Some c) where
     k : IsClient h w.log c
     k = all_get (IsClient h w.log) w.clients i c s.clients at
 
-    now : (d : Client) → GoesOn c d → v ≡ record w { clients = slice_set w.clients i d } → LeadsTo w v
-    now d x e = subst (LeadsTo w) (sym e) (goes i c d at x)
+    now : (d : Client) → GoesOn c d → v ≡ record w { clients = slice_set w.clients i d } → LeadsTo U w v
+    now d x e = subst (LeadsTo U w) (sym e) (goes i c d at x)
 
-    now_as : (p : Client × Answer) → GoesOn c p.0 → with_client w i p ≡ (v, a) → LeadsTo w v
+    now_as : (p : Client × Answer) → GoesOn c p.0 → with_client w i p ≡ (v, a) → LeadsTo U w v
     now_as p x e = now p.0 x (sym (ap (λ (q : WorldState × Answer). q.0) e))
 
     same : (d : Client) → d ≡ c → GoesOn c d
@@ -381,32 +381,32 @@ module _ (h : HeaderView) (w : WorldState) (s : IsWorld h w) (v : WorldState) (a
 
     -- ## The log
 
-    sent : c.connected ≡ true → (texts : List Body) → c.queue ≡ texts → sequence w i c texts ≡ (v, a) → LeadsTo w v
+    sent : c.connected ≡ true → (texts : List Body) → c.queue ≡ texts → sequence w i c texts ≡ (v, a) → LeadsTo U w v
     sent on [] is e = as_told (w, No NothingToSend) e stays
     sent on (text ∷ rest) is e = go (log_limit_passed w.log (names_in_text text)) refl e
       where
-        go : (o : Option Limit) → log_limit_passed w.log (names_in_text text) ≡ o → after_entry w i c text rest o ≡ (v, a) → LeadsTo w v
+        go : (o : Option Limit) → log_limit_passed w.log (names_in_text text) ≡ o → after_entry w i c text rest o ≡ (v, a) → LeadsTo U w v
         go (Some l) q e = as_told (w, limit_refusal l) e stays
         go None q e = as_told (after_entry w i c text rest None) e (sends i c text rest at on is q)
 
-    left : c.connected ≡ true → leave w i c (entries_limit_passed w.log) ≡ (v, a) → LeadsTo w v
+    left : c.connected ≡ true → leave w i c (entries_limit_passed w.log) ≡ (v, a) → LeadsTo U w v
     left on e = go (entries_limit_passed w.log) refl e
       where
-        go : (o : Option Limit) → entries_limit_passed w.log ≡ o → leave w i c o ≡ (v, a) → LeadsTo w v
+        go : (o : Option Limit) → entries_limit_passed w.log ≡ o → leave w i c o ≡ (v, a) → LeadsTo U w v
         go (Some l) q e = as_told (w, limit_refusal l) e stays
         go None q e = as_told (leave w i c None) e (leaves i c at on (within_entries w.log q))
 
-    dropped : c.connected ≡ true → drop_client w i c (entries_limit_passed w.log) ≡ (v, a) → LeadsTo w v
+    dropped : c.connected ≡ true → drop_client w i c (entries_limit_passed w.log) ≡ (v, a) → LeadsTo U w v
     dropped on e = go (entries_limit_passed w.log) refl e
       where
-        go : (o : Option Limit) → entries_limit_passed w.log ≡ o → drop_client w i c o ≡ (v, a) → LeadsTo w v
+        go : (o : Option Limit) → entries_limit_passed w.log ≡ o → drop_client w i c o ≡ (v, a) → LeadsTo U w v
         go (Some l) q e = as_told (w, limit_refusal l) e stays
         go None q e = as_told (drop_client w i c None) e (drops i c at on (within_entries w.log q))
 
-    returned : reconnect w i c (refusal_to_reconnect w.log c) ≡ (v, a) → LeadsTo w v
+    returned : reconnect w i c (refusal_to_reconnect w.log c) ≡ (v, a) → LeadsTo U w v
     returned e = go (refusal_to_reconnect w.log c) refl e
       where
-        go : (o : Option Refusal) → refusal_to_reconnect w.log c ≡ o → reconnect w i c o ≡ (v, a) → LeadsTo w v
+        go : (o : Option Refusal) → refusal_to_reconnect w.log c ≡ o → reconnect w i c o ≡ (v, a) → LeadsTo U w v
         go (Some why) q e = as_told (w, No why) e stays
         go None q e = let may = may_reconnect w.log c q in as_told (reconnect w i c None) e (returns i c at may.0.0 may.1)
 
@@ -417,14 +417,14 @@ module _ (h : HeaderView) (w : WorldState) (s : IsWorld h w) (v : WorldState) (a
     forks j l (Some why) = itself c
 
     -- on a branch that the client has, by its parent's line
-    on_own : (j : ℕ) (does : Branch → Line → Type 0) → ((b : Branch) (l : Line) → branch_of c j ≡ Some b → does b l → LeadsTo w v) → OnOwnBranch w c does (branch_of c j) v a → LeadsTo w v
+    on_own : (j : ℕ) (does : Branch → Line → Type 0) → ((b : Branch) (l : Line) → branch_of c j ≡ Some b → does b l → LeadsTo U w v) → OnOwnBranch w c does (branch_of c j) v a → LeadsTo U w v
     on_own j does some x = go (branch_of c j) refl x
       where
-        by : (b : Branch) → branch_of c j ≡ Some b → (o : Option Line) → OnParent w (does b) o v a → LeadsTo w v
+        by : (b : Branch) → branch_of c j ≡ Some b → (o : Option Line) → OnParent w (does b) o v a → LeadsTo U w v
         by b is None x = kept x.0
         by b is (Some l) x = some b l is x
 
-        go : (o : Option Branch) → branch_of c j ≡ o → OnOwnBranch w c does o v a → LeadsTo w v
+        go : (o : Option Branch) → branch_of c j ≡ o → OnOwnBranch w c does o v a → LeadsTo U w v
         go None is x = kept x.0
         go (Some b) is x = by b is (line_of c b.parent) x
 
@@ -447,7 +447,7 @@ module _ (h : HeaderView) (w : WorldState) (s : IsWorld h w) (v : WorldState) (a
 
     -- ## Acts
 
-    acts : (x : ActView) (j : ℕ) (l : Line) → line_of c j ≡ Some l → (needs_connection x ≡ true → c.connected ≡ true) → IsActOf h w x i c j l v a → LeadsTo w v
+    acts : (x : ActView) (j : ℕ) (l : Line) → line_of c j ≡ Some l → (needs_connection x ≡ true → c.connected ≡ true) → IsActOf h w x i c j l v a → LeadsTo U w v
     acts (step.join uuid) j l line on y = kept y.0
     acts (step.edit e) j l line on y = now y.1 (edits j l l.transaction y.0 e y.1 y.3) y.4
     acts (step.need path) j l line on y = now y.1 (needs j l.transaction (need y.0 (next_names c l.transaction) path) y.1 y.3) y.4
@@ -471,7 +471,7 @@ module _ (h : HeaderView) (w : WorldState) (s : IsWorld h w) (v : WorldState) (a
     acts step.show j l line on y = kept y.0
     acts step.pending j l line on y = kept y.0
 
-  joined : (name : List ℕ) (told : Option ℕ) → IsOfVersion4 told → join w name told ≡ (v, a) → LeadsTo w v
+  joined : (name : List ℕ) (told : Option ℕ) → IfSome told U → join w name told ≡ (v, a) → LeadsTo U w v
   joined name told v4 e = go (nat_le 64 (length w.clients)) refl (nat_le 65535 (length w.log)) refl (clashes uuid w.log) refl e
     where
       session : ℕ
@@ -481,13 +481,13 @@ module _ (h : HeaderView) (w : WorldState) (s : IsWorld h w) (v : WorldState) (a
       uuid = uuid_for session told
 
       go : (b : Bool) → nat_le 64 (length w.clients) ≡ b → (c : Bool) → nat_le 65535 (length w.log) ≡ c → (d : Bool) → clashes uuid w.log ≡ d
-          → cond b (w, limit_refusal (record { of = Clients; kept = length w.clients })) (cond c (w, limit_refusal (record { of = Log; kept = length w.log })) (cond d (w, No Clash) (enter w session uuid name))) ≡ (v, a) → LeadsTo w v
+          → cond b (w, limit_refusal (record { of = Clients; kept = length w.clients })) (cond c (w, limit_refusal (record { of = Log; kept = length w.log })) (cond d (w, No Clash) (enter w session uuid name))) ≡ (v, a) → LeadsTo U w v
       go true p c q d r e = as_told (w, limit_refusal (record { of = Clients; kept = length w.clients })) e stays
       go false p true q d r e = as_told (w, limit_refusal (record { of = Log; kept = length w.log })) e stays
       go false p false q true r e = as_told (w, No Clash) e stays
       go false p false q false r e = as_told (enter w session uuid name) e (joins name told v4 (grind (arith, nat_tests, p)) (grind (arith, nat_tests, q)) r)
 
-  acts_none : (name : List ℕ) (x : ActView) → BringsVersion4 x → act_of_none w name x ≡ (v, a) → LeadsTo w v
+  acts_none : (name : List ℕ) (x : ActView) → Brings U x → act_of_none w name x ≡ (v, a) → LeadsTo U w v
   acts_none name (step.join told) v4 e = joined name told v4 e
   acts_none name (step.edit e) v4 y = as_told (w, No NoClient) y stays
   acts_none name (step.need path) v4 y = as_told (w, No NoClient) y stays
@@ -510,27 +510,27 @@ module _ (h : HeaderView) (w : WorldState) (s : IsWorld h w) (v : WorldState) (a
   acts_none name step.pending v4 y = as_told (w, No NoClient) y stays
 
   by : (x : ActView) (i : ℕ) (c : Client) (at : slice_get w.clients i ≡ Some c) (j : ℕ) (l : Line) → line_of c j ≡ Some l → (needs connected : Bool) → needs_connection x ≡ needs → c.connected ≡ connected
-      → ByConnected needs connected w v a (IsActOf h w x i c j l v a) → LeadsTo w v
+      → ByConnected needs connected w v a (IsActOf h w x i c j l v a) → LeadsTo U w v
   by x i c at j l line false connected n on y = acts i c at x j l line (λ e. absurd (cc)) y
   by x i c at j l line true true n on y = acts i c at x j l line (λ e. on) y
   by x i c at j l line true false n on y = kept y.0
 
   on_line : (x : ActView) (i : ℕ) (c : Client) (at : slice_get w.clients i ≡ Some c) (j : ℕ) (o : Option Line) → line_of c j ≡ o
-      → OnLine w (λ l. ByConnected (needs_connection x) c.connected w v a (IsActOf h w x i c j l v a)) o v a → LeadsTo w v
+      → OnLine w (λ l. ByConnected (needs_connection x) c.connected w v a (IsActOf h w x i c j l v a)) o v a → LeadsTo U w v
   on_line x i c at j None line y = kept y.0
   on_line x i c at j (Some l) line y = by x i c at j l line (needs_connection x) c.connected refl refl y
 
-  leads : (x : StepView) → BringsVersion4 x.act → IsNext h w x v a → LeadsTo w v
+  leads : (x : StepView) → Brings U x.act → IsNext h w x v a → LeadsTo U w v
   leads x v4 y = place (place_of x.client w.clients) y
     where
-      client_at : (i : ℕ) (o : Option Client) → slice_get w.clients i ≡ o → AtClient h w x (option_map (λ c. (i, c)) o) v a → LeadsTo w v
+      client_at : (i : ℕ) (o : Option Client) → slice_get w.clients i ≡ o → AtClient h w x (option_map (λ c. (i, c)) o) v a → LeadsTo U w v
       client_at i None at y = acts_none x.client x.act v4 y
       client_at i (Some c) at y = on_line x.act i c at (branch_at x.branch x.act) (line_of c (branch_at x.branch x.act)) refl y
 
-      place : (o : Option ℕ) → AtClient h w x (option_and_then (λ i. option_map (λ c. (i, c)) (slice_get w.clients i)) o) v a → LeadsTo w v
+      place : (o : Option ℕ) → AtClient h w x (option_and_then (λ i. option_map (λ c. (i, c)) (slice_get w.clients i)) o) v a → LeadsTo U w v
       place None y = acts_none x.client x.act v4 y
       place (Some i) y = client_at i (slice_get w.clients i) refl y
 
 -- what a step does
-pub leads_on : (h : HeaderView) (w v : WorldState) (x : StepView) (a : Answer) → IsWorld h w → BringsVersion4 x.act → IsNext h w x v a → LeadsTo w v
-leads_on h w v x a s v4 next = leads h w s v a x v4 next
+pub leads_on : (U : ℕ → Type 0) (h : HeaderView) (w v : WorldState) (x : StepView) (a : Answer) → IsWorld h w → Brings U x.act → IsNext h w x v a → LeadsTo U w v
+leads_on U h w v x a s v4 next = leads U h w s v a x v4 next

@@ -1,6 +1,5 @@
 -- The message of an entry, as it is judged beside the log before it.
-use Rattle.std.specs.Prelude.{◌≡◌, ◌+◌, ℕ, List, None, Some, slice_get, take}
-use Rattle.st_change_writer.specs.Told.{change_data}
+use Rattle.std.specs.Prelude.{◌≡◌, ◌+◌, ℕ, List, Some, slice_get, take}
 use Rattle.st_lists.specs.Log.{minimum}
 use Rattle.st_lists.specs.declared.lists.Body.{Body}
 use Rattle.st_lists.specs.declared.lists.Body.TheVariants.{Join, Leave, Ack, Commit}
@@ -10,9 +9,6 @@ use Rattle.st_marks.specs.declared.intents.Intent.{Intent}
 use Rattle.st_marks.specs.Document.{Document}
 use Rattle.st_marks.specs.Embedding.{IsEmbedding}
 use Rattle.st_marks.specs.Run.{Run}
-use Rattle.st_msg.specs.Messages.{MessageView, SaidView}
-use Rattle.st_msg.specs.Messages as told
-use Rattle.st_texts.specs.Names.{names_seen}
 use Rattle.st_valid.specs.Author.{author_list}
 use Rattle.st_valid.specs.declared.message.Message.{Message}
 use Rattle.st_valid.specs.declared.message.Said.{Said}
@@ -41,20 +37,3 @@ pub record IsMessageAt (O : Document) (log : List Entry) (i : ℕ) (m : Message)
   pub min : m.min ≡ minimum (take (i + 1) log)
   pub session : m.session ≡ entry.session
   pub says : SaysAs O (take i log) entry.session entry.body m.said
-
--- ## What its text tells
-
--- a change is told with the numbers that its author saw
-abbrev pub TellsSaid : List Entry → ℕ → Said → SaidView → Type 0
-TellsSaid log session (said.Join uuid) v = v ≡ told.Join uuid
-TellsSaid log session said.Leave v = v ≡ told.Leave
-TellsSaid log session (said.Ack reference) v = v ≡ told.Ack reference
-TellsSaid log session (said.Commit reference ids None) v = ⊥
-TellsSaid log session (said.Commit reference ids (Some C)) v = v ≡ told.Commit reference ids (change_data (names_seen log session reference ids) C)
-
--- a message, and what is told of it beside the log before it
-pub record Tells (log : List Entry) (m : Message) (v : MessageView) : Type 0 where
-  pub number : v.n ≡ m.n
-  pub min : v.min ≡ m.min
-  pub session : v.session ≡ m.session
-  pub said : TellsSaid log m.session m.said v.said

@@ -17,13 +17,16 @@ use Rattle.st_script.specs.Steps.{ActView}
 use Rattle.st_script.specs.Steps as step
 use Rattle.st_world.specs.World.{uuid_for}
 
--- an act that joins with a UUID brings one of version 4
-abbrev pub IsOfVersion4 : Option ℕ → Type 0
-IsOfVersion4 told = IfSome told (λ u. is_v4 u ≡ true)
+-- an act that joins with a UUID brings one of a kind
+abbrev pub Brings : (ℕ → Type 0) → ActView → Type 0
+Brings U (step.join told) = IfSome told U
+Brings U act = Unit {0}
+
+abbrev pub IsVersion4 : ℕ → Type 0
+IsVersion4 u = is_v4 u ≡ true
 
 abbrev pub BringsVersion4 : ActView → Type 0
-BringsVersion4 (step.join told) = IsOfVersion4 told
-BringsVersion4 act = Unit {0}
+BringsVersion4 act = Brings IsVersion4 act
 
 -- ## One client
 
@@ -54,25 +57,26 @@ pub record GoesOn (c d : Client) : Type 0 where
 
 -- ## The world
 
-pub data LeadsTo (w : WorldState) : WorldState → Type 0 where
+-- a UUID that a new client brings is of a kind
+pub data LeadsTo (U : ℕ → Type 0) (w : WorldState) : WorldState → Type 0 where
   -- nothing changes
-  stays : LeadsTo w w
+  stays : LeadsTo U w w
   -- a client goes on
-  goes : (i : ℕ) (c d : Client) → slice_get w.clients i ≡ Some c → GoesOn c d → LeadsTo w (record w { clients = slice_set w.clients i d })
+  goes : (i : ℕ) (c d : Client) → slice_get w.clients i ≡ Some c → GoesOn c d → LeadsTo U w (record w { clients = slice_set w.clients i d })
   -- the oldest text of a client that is connected enters the log
   sends : (i : ℕ) (c : Client) (text : Body) (rest : List Body) → slice_get w.clients i ≡ Some c → c.connected ≡ true → c.queue ≡ text ∷ rest
-      → log_limit_passed w.log (names_in_text text) ≡ None → LeadsTo w (record w { log = log_with w.log c.session text; clients = slice_set w.clients i (record c { queue = rest }) })
+      → log_limit_passed w.log (names_in_text text) ≡ None → LeadsTo U w (record w { log = log_with w.log c.session text; clients = slice_set w.clients i (record c { queue = rest }) })
   -- one that is connected leaves, or is dropped
   leaves : (i : ℕ) (c : Client) → slice_get w.clients i ≡ Some c → c.connected ≡ true → length w.log < 65535
-      → LeadsTo w (record w { log = log_with w.log c.session Leave; clients = remove w.clients i })
+      → LeadsTo U w (record w { log = log_with w.log c.session Leave; clients = remove w.clients i })
   drops : (i : ℕ) (c : Client) → slice_get w.clients i ≡ Some c → c.connected ≡ true → length w.log < 65535
-      → LeadsTo w (record w { log = log_with w.log c.session Leave; clients = slice_set w.clients i (without_connection c) })
+      → LeadsTo U w (record w { log = log_with w.log c.session Leave; clients = slice_set w.clients i (without_connection c) })
   -- one that isn't connected comes back
   returns : (i : ℕ) (c : Client) → slice_get w.clients i ≡ Some c → c.connected ≡ false → length w.log < 65535
-      → LeadsTo w (record w { log = log_with w.log c.session (Join c.uuid); clients = slice_set w.clients i (with_connection w.log c) })
+      → LeadsTo U w (record w { log = log_with w.log c.session (Join c.uuid); clients = slice_set w.clients i (with_connection w.log c) })
   -- a new one joins by the next session, with the UUID that is told, or else the session's own
-  joins : (name : List ℕ) (told : Option ℕ) → IsOfVersion4 told → length w.clients < 64 → length w.log < 65535 → clashes (uuid_for (sessions_in w.log + 1) told) w.log ≡ false
-      → LeadsTo w (record w {
+  joins : (name : List ℕ) (told : Option ℕ) → IfSome told U → length w.clients < 64 → length w.log < 65535 → clashes (uuid_for (sessions_in w.log + 1) told) w.log ≡ false
+      → LeadsTo U w (record w {
         log = log_with w.log (sessions_in w.log + 1) (Join (uuid_for (sessions_in w.log + 1) told));
         clients = w.clients ++ new_client (length w.log + 1) (sessions_in w.log + 1) (uuid_for (sessions_in w.log + 1) told) name ∷ [];
       })

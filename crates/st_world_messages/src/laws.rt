@@ -1,5 +1,6 @@
 //! Laws on the messages of a world: each is the contract of a function that does nothing.
-ghost use Rattle.std.specs.Prelude.{◌≡◌, ◌≤◌, ◌+◌, ℕ, List, Some, slice_get, take};
+ghost use Rattle.std.specs.Prelude.{◌≡◌, ◌≤◌, ◌+◌, [], ℕ, List, Option as Maybe, Some, slice_get, take};
+ghost use Rattle.serde_json.specs.Data.{Data};
 ghost use Rattle.st_clusters.specs.Table.{most_ids};
 ghost use Rattle.st_lists.specs.Clients.{empty_state};
 ghost use Rattle.st_lists.specs.Names.{names_made};
@@ -10,8 +11,10 @@ ghost use Rattle.st_marks.specs.Embedding.{IsEmbedding};
 ghost use Rattle.st_marks.specs.Intent.{Fits};
 ghost use Rattle.st_marks.specs.declared.changes.Change.{Change};
 ghost use Rattle.st_marks.specs.declared.intents.Intent.{Intent};
-ghost use Rattle.st_msg.specs.Messages.{MessageView};
+ghost use Rattle.st_marks.specs.declared.verdicts.Verdict.{Verdict};
+ghost use Rattle.st_msg.specs.Messages.{MessageView, message_data};
 ghost use Rattle.st_script.specs.Header.{HeaderView};
+ghost use Rattle.st_script.specs.StepText.{FitsLine};
 ghost use Rattle.st_script.specs.Steps.{StepView};
 ghost use Rattle.st_script.specs.declared.answer.Answer.{Answer};
 ghost use Rattle.st_texts.specs.Texts.{IsMessageOf};
@@ -19,17 +22,20 @@ ghost use Rattle.st_valid.specs.Room.{names_of_change};
 ghost use Rattle.st_valid.specs.declared.message.Message.{Message};
 ghost use Rattle.st_valid.specs.declared.message.ReplayCause.TheVariants as cause;
 ghost use Rattle.st_valid_laws.specs.Messages.{IsValid, IsValidLog, Passes};
+ghost use Rattle.st_valid_laws.specs.Taking.{IsTaken};
 ghost use Rattle.st_world.specs.World.{IsNext, opening_document};
 ghost use Rattle.st_world_laws.specs.Worlds.{IsHeader, IsWorld, KeepsRules};
-ghost use Rattle.st_world_messages.specs.Messages.{IsMessageAt, Tells};
+ghost use Rattle.st_seen_laws.specs.Told.{Tells};
+ghost use Rattle.st_world_messages.specs.Messages.{IsMessageAt};
 ghost use Rattle.st_world_messages.specs.Order.{SendsInOrder};
-ghost use Rattle.st_world_messages.specs.Steps.{BringsVersion4, LeadsTo};
+ghost use Rattle.st_world_messages.specs.Texts.{AreMessagesFrom, AreTaken, SendsTexts};
+ghost use Rattle.st_world_messages.specs.Steps.{BringsVersion4, IsVersion4, LeadsTo};
 
 /// A step does one of seven things to a world's lists: nothing, or one client goes on by itself, or
-/// one entry comes, with its client.
+/// one entry comes, with its client. A UUID that comes so is of version 4, as the step's is.
 pub fn steps_lead_so()
     ensures { (h : HeaderView) (w v : WorldState) (s : StepView) (a : Answer) → IsWorld h w
-        → BringsVersion4 s.act → IsNext h w s v a → LeadsTo w v }
+        → BringsVersion4 s.act → IsNext h w s v a → LeadsTo IsVersion4 w v }
 {}
 
 /// Before any client joins all is in order.
@@ -128,4 +134,34 @@ pub fn world_messages_are_valid()
 pub fn world_logs_are_valid()
     ensures { (h : HeaderView) (steps : ℕ) (w : WorldState) → SendsInOrder h steps w
         → steps ≤ most_ids → IsValidLog (opening_document h) w.log }
+{}
+
+/// Before any client joins nothing is to be told.
+pub fn texts_begin()
+    ensures { (h : HeaderView) → IsHeader h → SendsTexts h 0 empty_state }
+{}
+
+/// Whatever a step leads to that a line of a trace can hold, the text of each entry can be read
+/// again.
+pub fn texts_go_on()
+    ensures { (h : HeaderView) (steps : ℕ) (w v : WorldState) (s : StepView) (a : Answer)
+        → SendsTexts h steps w → FitsLine s → IsNext h w s v a → SendsTexts h (steps + 1) v }
+{}
+
+/// So the text of each entry, as a value, is taken behind the entries before it, and the log goes on
+/// by that entry.
+pub fn world_texts_are_taken()
+    ensures { (h : HeaderView) (steps : ℕ) (w : WorldState) (i : ℕ) (e : Entry) (v : MessageView)
+        → SendsTexts h steps w → steps ≤ most_ids → slice_get w.log i ≡ Some e
+        → IsMessageOf (opening_document h) w.log (i + 1) v
+        → (void : Maybe Verdict) × IsTaken (opening_document h) (take i w.log) (message_data v)
+        (take (i + 1) w.log) (i + 1) void }
+{}
+
+/// And the texts of all entries, replayed one after the other, are all taken, and lead to the log.
+pub fn world_logs_are_replayed()
+    ensures { (h : HeaderView) (steps : ℕ) (w : WorldState) (texts : List Data)
+        → SendsTexts h steps w → steps ≤ most_ids
+        → AreMessagesFrom (opening_document h) w.log 0 texts
+        → AreTaken (opening_document h) [] texts w.log }
 {}
