@@ -1,0 +1,3 @@
+pub mod VerdictsLeft
+pub mod NodesLeft
+pub mod MentionedLeft

@@ -1,0 +1,33 @@
+//! Laws on whole changes and the steps that they pass: each is the contract of a function that does nothing.
+ghost use Rattle.std.specs.Prelude.{◌≡◌, false};
+ghost use Rattle.st_marks.specs.declared.changes.Change.{Change};
+ghost use Rattle.st_marks.specs.declared.intents.Intent.{Intent};
+ghost use Rattle.st_marks.specs.declared.steps.Step.{Step};
+ghost use Rattle.st_marks.specs.declared.verdicts.Verdict.{Verdict};
+ghost use Rattle.st_marks.specs.Document.{Document};
+ghost use Rattle.st_marks.specs.Extends.{IsExtendedBy};
+ghost use Rattle.st_marks.specs.Intent.{Fits};
+ghost use Rattle.st_marks.specs.Verdict.{IsVerdict};
+ghost use Rattle.st_passing.specs.Whole.{LeavesMentioned, Passes};
+ghost use Rattle.st_read_laws.specs.Reading.{IsRead, IsStepRead};
+
+/// Where the step moves none of the nodes that an intent mentions, and the same schemas are in effect, the intent has the same
+/// verdict after the step.
+pub fn verdicts_stay()
+    ensures { (D E : Document) (N : Intent) (v : Verdict) → IsExtendedBy D E → Fits D N → Fits E N → LeavesMentioned D E N → D.schemas ≡ E.schemas
+        → IsVerdict D N v → IsVerdict E N v }
+{}
+
+/// A step that passes a change moves none of the nodes that the change's intent mentions, and leaves the schemas in effect.
+pub fn passing_steps_leave_mentioned()
+    ensures nodes { (D E : Document) (N : Intent) (C : Change) (S : Step) → IsExtendedBy D E → IsRead false D N C → IsStepRead false D E S → Passes C S
+        → LeavesMentioned D E N }
+    ensures schemas { (D E : Document) (C : Change) (S : Step) → IsStepRead false D E S → Passes C S → D.schemas ≡ E.schemas }
+{}
+
+/// Where a change and a step pass each other, the change's intent has the same verdict after the step.
+pub fn verdicts_pass()
+    ensures { (D E : Document) (N : Intent) (C : Change) (S : Step) (v : Verdict) → IsExtendedBy D E → Fits D N → Fits E N
+        → IsRead false D N C → IsStepRead false D E S → Passes C S
+        → IsVerdict D N v → IsVerdict E N v }
+{}
