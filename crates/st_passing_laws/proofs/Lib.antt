@@ -1,3 +1,5 @@
 pub mod VerdictsLeft
 pub mod NodesLeft
 pub mod MentionedLeft
+pub mod RowsRaised
+pub mod ChangesLeft

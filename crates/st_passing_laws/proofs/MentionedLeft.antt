@@ -1,19 +1,18 @@
 -- A step that passes a change moves none of the nodes that the change's intent mentions: of a change and a step that are read.
 use Rattle.std.proofs.Common.{◌≡◌, ◌∙◌, sym, refl, subst, false, ap}
-use Rattle.st_ids.specs.declared.names.NodeId.{NodeId}
 use Rattle.st_marks.specs.declared.changes.Change.{Change}
 use Rattle.st_marks.specs.declared.intents.Intent.{Intent}
 use Rattle.st_marks.specs.declared.places.Spot.{Spot}
 use Rattle.st_marks.specs.declared.steps.Step.{Step}
 use Rattle.st_marks.specs.Document.{Document}
-use Rattle.st_marks.specs.Embedding.{IsEmbedding, IsMentionedByIntent}
+use Rattle.st_marks.specs.Embedding.{IsEmbedding}
 use Rattle.st_marks.specs.Extends.{IsExtendedBy}
 use Rattle.st_marks.specs.Step.{IsSchemaStep, IsStep}
 use Rattle.st_marks.proofs.Climb.{shown, stands}
 use Rattle.st_read_laws.specs.Reading.{IsRead, IsStepRead, read_change, read_step}
 use Rattle.st_passing.specs.Whole.{LeavesMentioned, Passes}
 use Rattle.st_passing.proofs.NodesStaying.{row_stays, stands_on}
-use Rattle.st_passing_laws.proofs.NodesLeft.{change_cells, held_stays, loose_stays, rows_do_not_meet, step_cells}
+use Rattle.st_passing_laws.proofs.NodesLeft.{held_stays, loose_stays, rows_do_not_meet}
 use Rattle.st_marks.specs.Embedding.{row_part}
 
 module _ (D E : Document) (N : Intent) (C : Change) (S : Step) (x : IsExtendedBy D E) (change : IsEmbedding D N C) (step : IsStep D E S) (passes : Passes (read_change false C) (read_step false S)) where

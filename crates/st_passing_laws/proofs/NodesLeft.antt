@@ -1,5 +1,5 @@
 -- A step that passes a change moves none of the nodes that the change's intent mentions.
-use Rattle.std.proofs.Common.{◌≡◌, ◌≢◌, ℕ, zero, suc, Bool, true, false, not, ◌||◌, ◌&&◌, List, [], ◌∷◌, map, length, Option, Some, None, IsSome, cond, refl, sym, ap, ◌∙◌, subst, inl, inr, ◌⊎◌, option_and_then}
+use Rattle.std.proofs.Common.{◌≡◌, ◌≢◌, ℕ, zero, suc, Bool, true, false, not, ◌||◌, List, [], ◌∷◌, map, length, Option, Some, None, IsSome, cond, refl, sym, ap, ◌∙◌, subst, inl, inr, ◌⊎◌, option_and_then}
 use Rattle.std.specs.List.{AllByRecursion, list_any}
 use Rattle.std.specs.Option.{option_map_or}
 use Rattle.st_ids.specs.Listing.{item_of}
@@ -11,7 +11,6 @@ use Rattle.st_ids.proofs.Orders.{same_node-true}
 use Rattle.st_marks.specs.declared.changes.Change.{Change}
 use Rattle.st_marks.specs.declared.intents.Intent.{Intent}
 use Rattle.st_marks.specs.declared.intents.To.{To}
-use Rattle.st_marks.specs.declared.marks.How.{How}
 use Rattle.st_marks.specs.declared.marks.How.TheVariants.{Stay, Here, Leave}
 use Rattle.st_marks.specs.declared.marks.Loose.{Loose}
 use Rattle.st_marks.specs.declared.marks.RegMark.{RegMark}
@@ -19,23 +18,22 @@ use Rattle.st_marks.specs.declared.marks.RegStep.{RegStep}
 use Rattle.st_marks.specs.declared.marks.RowMarks.{RowMarks}
 use Rattle.st_marks.specs.declared.places.Slot.{Slot}
 use Rattle.st_marks.specs.declared.places.Spot.{Spot}
-use Rattle.st_marks.specs.declared.schemas.SchemaStep.{SchemaStep}
 use Rattle.st_marks.specs.declared.steps.Step.{Step}
 use Rattle.st_marks.specs.Document.{Document, above, climb, content}
-use Rattle.st_marks.specs.Embedding.{IsEmbedding, IsMentionedByIntent, embed_loose, is_loose, is_nowhere, register_part, row_marks, row_part, tells}
+use Rattle.st_marks.specs.Embedding.{IsEmbedding, IsMentionedByIntent, is_loose, is_nowhere, register_part, row_marks, row_part, tells}
 use Rattle.st_marks.specs.Extends.{GainsItems, IsExtendedBy, no_more, item_gained, item_kept}
 use Rattle.st_marks.specs.Intent.{put_of, same_option}
 use Rattle.st_marks.specs.Listings.{cells_before}
-use Rattle.st_marks.specs.Register.{RegisterPart, comes_in, embed_register, holds_mentioned, how_held, step_register}
+use Rattle.st_marks.specs.Register.{RegisterPart, comes_in, embed_register, holds_mentioned, how_held}
 use Rattle.st_marks.specs.Row.{CellMark, Counted, Gap, Touch, Make, Fill, SameCell, counted_cells, embed_row, how, merge, spread, step_cell, step_row}
-use Rattle.st_marks.specs.Step.{IsMentionedByStep, IsSchemaStep, IsStep, step_loose}
+use Rattle.st_marks.specs.Step.{IsMentionedByStep, IsSchemaStep, IsStep}
 use Rattle.st_marks.proofs.Climb.{above_known, same_spot}
 use Rattle.st_marks.proofs.Shared.{same-held}
 use Rattle.st_rows.proofs.KindLaws.{spread-merge}
 use Rattle.st_over.proofs.Listed.{rows_read}
-use Rattle.st_read_laws.specs.Reading.{read, read_change, read_row, read_step}
+use Rattle.st_read_laws.specs.Reading.{read, read_change, read_step}
 use Rattle.st_passing.specs.Passing.{do_not_meet}
-use Rattle.st_passing.specs.Whole.{Passes, row_in, row_passes}
+use Rattle.st_passing.specs.Whole.{Passes, row_in}
 
 -- ## Rows that only one of them lists don't meet
 

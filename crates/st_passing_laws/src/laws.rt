@@ -8,7 +8,7 @@ ghost use Rattle.st_marks.specs.Document.{Document};
 ghost use Rattle.st_marks.specs.Extends.{IsExtendedBy};
 ghost use Rattle.st_marks.specs.Intent.{Fits};
 ghost use Rattle.st_marks.specs.Verdict.{IsVerdict};
-ghost use Rattle.st_passing.specs.Whole.{LeavesMentioned, Passes};
+ghost use Rattle.st_passing.specs.Whole.{LeavesMentioned, Passes, raised_change};
 ghost use Rattle.st_read_laws.specs.Reading.{IsRead, IsStepRead};
 
 /// Where the step moves none of the nodes that an intent mentions, and the same schemas are in effect, the intent has the same
@@ -30,4 +30,29 @@ pub fn verdicts_pass()
     ensures { (D E : Document) (N : Intent) (C : Change) (S : Step) (v : Verdict) → IsExtendedBy D E → Fits D N → Fits E N
         → IsRead false D N C → IsStepRead false D E S → Passes C S
         → IsVerdict D N v → IsVerdict E N v }
+{}
+
+/// Where a change and a step pass each other, the change with its counts raised is the change of its intent after the step.
+pub fn changes_pass()
+    ensures { (D E : Document) (N : Intent) (C : Change) (S : Step) → IsExtendedBy D E → Fits D N → Fits E N
+        → IsRead false D N C → IsStepRead false D E S → Passes C S
+        → IsRead false E N (raised_change C S) }
+{}
+
+/// So the intent's change after the step, K, says the same of registers as before it.
+pub fn registers_pass()
+    ensures { (D E : Document) (N : Intent) (C K : Change) (S : Step) → IsExtendedBy D E → Fits D N → Fits E N
+        → IsRead false D N C → IsStepRead false D E S → Passes C S → IsRead false E N K → K.regs ≡ C.regs }
+{}
+
+/// And the same of nodes that are nowhere.
+pub fn loose_nodes_pass()
+    ensures { (D E : Document) (N : Intent) (C K : Change) (S : Step) → IsExtendedBy D E → Fits D N → Fits E N
+        → IsRead false D N C → IsStepRead false D E S → Passes C S → IsRead false E N K → K.loose ≡ C.loose }
+{}
+
+/// And the schema under which the intent was made is in effect after the step where it was before it.
+pub fn bases_pass()
+    ensures { (D E : Document) (N : Intent) (C K : Change) (S : Step) → IsExtendedBy D E → Fits D N → Fits E N
+        → IsRead false D N C → IsStepRead false D E S → Passes C S → IsRead false E N K → K.base ≡ C.base }
 {}

@@ -3,4 +3,7 @@
 
 mod laws;
 
-pub use laws::{passing_steps_leave_mentioned, verdicts_pass, verdicts_stay};
+pub use laws::{
+    bases_pass, changes_pass, loose_nodes_pass, passing_steps_leave_mentioned, registers_pass,
+    verdicts_pass, verdicts_stay,
+};
