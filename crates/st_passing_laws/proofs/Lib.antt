@@ -3,3 +3,4 @@ pub mod NodesLeft
 pub mod MentionedLeft
 pub mod RowsRaised
 pub mod ChangesLeft
+pub mod CarriedAlike

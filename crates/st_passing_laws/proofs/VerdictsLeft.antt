@@ -97,7 +97,7 @@ module _ (D E : Document) (N : Intent) (x : IsExtendedBy D E) (f : Fits D N) (e 
   known_reached n h (inl new) = inl new
   known_reached n h (inr old) = inr (n, h, old, 0, refl)
 
-  stands_alike : (n : NodeId) → IsReached n → D.place n ≡ E.place n
+  pub stands_alike : (n : NodeId) → IsReached n → D.place n ≡ E.place n
   stands_alike n (inl new) = unknown_nowhere D x.before n (f.fresh_nodes n new) ∙ sym (unknown_nowhere E x.after n (e.fresh_nodes n new))
   stands_alike n (inr m) = stay n m
 
@@ -105,12 +105,12 @@ module _ (D E : Document) (N : Intent) (x : IsExtendedBy D E) (f : Fits D N) (e 
   row_alike n c (inl h) = (x.before.one_row c h.0).1 (n, h.1) ∙ sym ((x.after.one_row c h.0).1 (n, has_later (x.rows h.0) (owned_cell c n) h.1))
   row_alike n c (inr h) = f.fresh_cells c (made_there N (owned_cell c n) h) ∙ sym (e.fresh_cells c (made_there N (owned_cell c n) h))
 
-  put_alike : (n : NodeId) (to : To) → put_of N n ≡ Some to → spot_of (with_names D N).row_of to ≡ spot_of (with_names E N).row_of to
+  pub put_alike : (n : NodeId) (to : To) → put_of N n ≡ Some to → spot_of (with_names D N).row_of to ≡ spot_of (with_names E N).row_of to
   put_alike n To.Nowhere h = refl
   put_alike n (To.Register g) h = refl
   put_alike n (To.Cell c) h = ap (λ (o : Option NodeId). option_map_or (λ r. Spot.Row r c) (option_or o (new_row_of N c)) Spot.Nowhere) (row_alike n c (known_put D N f n (To.Cell c) h).1)
 
-  place_alike : (n : NodeId) → IsReached n → (full D N).place n ≡ (full E N).place n
+  pub place_alike : (n : NodeId) → IsReached n → (full D N).place n ≡ (full E N).place n
   place_alike n r = go (put_of N n) refl
     where
       go : (o : Option To) → put_of N n ≡ o → place_after (with_names D N).row_of N o (D.place n) ≡ place_after (with_names E N).row_of N o (E.place n)

@@ -1,13 +1,16 @@
 //! Laws on whole changes and the steps that they pass: each is the contract of a function that does nothing.
-ghost use Rattle.std.specs.Prelude.{◌≡◌, false};
+ghost use Rattle.std.specs.Prelude.{◌≡◌, ◌⊎◌, IsTrue, false};
+ghost use Rattle.st_ids.specs.declared.names.NodeId.{NodeId};
 ghost use Rattle.st_marks.specs.declared.changes.Change.{Change};
 ghost use Rattle.st_marks.specs.declared.intents.Intent.{Intent};
 ghost use Rattle.st_marks.specs.declared.steps.Step.{Step};
 ghost use Rattle.st_marks.specs.declared.verdicts.Verdict.{Verdict};
 ghost use Rattle.st_marks.specs.Document.{Document};
 ghost use Rattle.st_marks.specs.Extends.{IsExtendedBy};
-ghost use Rattle.st_marks.specs.Intent.{Fits};
-ghost use Rattle.st_marks.specs.Verdict.{IsVerdict};
+ghost use Rattle.st_marks.specs.Embedding.{IsMentionedByIntent};
+ghost use Rattle.st_marks.specs.Intent.{Fits, is_new};
+ghost use Rattle.st_marks.specs.Step.{gained_node};
+ghost use Rattle.st_marks.specs.Verdict.{IsVerdict, carried_document};
 ghost use Rattle.st_passing.specs.Whole.{LeavesMentioned, Passes, raised_change};
 ghost use Rattle.st_read_laws.specs.Reading.{IsRead, IsStepRead};
 
@@ -55,4 +58,18 @@ pub fn loose_nodes_pass()
 pub fn bases_pass()
     ensures { (D E : Document) (N : Intent) (C K : Change) (S : Step) → IsExtendedBy D E → Fits D N → Fits E N
         → IsRead false D N C → IsStepRead false D E S → Passes C S → IsRead false E N K → K.base ≡ C.base }
+{}
+
+/// Where the step moves none of the nodes that an intent mentions, each that it mentions or makes stands in one place in both
+/// documents after the intent, whatever its verdict is.
+pub fn nodes_stand_alike()
+    ensures { (D E : Document) (N : Intent) (v : Verdict) (n : NodeId) → IsExtendedBy D E → Fits D N → Fits E N → LeavesMentioned D E N
+        → IsTrue (is_new N n) ⊎ IsMentionedByIntent D N n
+        → (carried_document v D N).place n ≡ (carried_document v E N).place n }
+{}
+
+/// The step from the document after an intent to the later one after it makes the nodes that the step between the two makes.
+pub fn new_nodes_pass()
+    ensures { (D E : Document) (N : Intent) (v : Verdict) (n : NodeId) → Fits D N → Fits E N
+        → gained_node n ((carried_document v D N).nodes n) ((carried_document v E N).nodes n) ≡ gained_node n (D.nodes n) (E.nodes n) }
 {}
