@@ -1,5 +1,5 @@
 -- The texts of a world's entries, one after the other.
-use Rattle.std.proofs.Common.{◌≡◌, ◌≤◌, ◌+◌, ◌-◌, ℕ, List, [], ◌∷◌, length, take, Option, Some, None, IfSome, sym, ap, ◌∙◌, subst, arith}
+use Rattle.std.proofs.Common.{◌≡◌, ◌≤◌, ◌+◌, ◌-◌, ℕ, List, [], ◌∷◌, length, take, Option, Some, None, IfSome, ◌++◌, append-nil, sym, ap, ap₂, ◌∙◌, subst, arith}
 use Rattle.std.specs.List.{slice_get}
 use Rattle.std.proofs.lemmas.List.{take_all}
 use Rattle.serde_json.specs.Data.{Data}
@@ -9,9 +9,15 @@ use Rattle.st_clusters.specs.Table.{most_ids}
 use Rattle.st_commit_laws.proofs.Going.{tellable_next}
 use Rattle.st_commit_laws.proofs.Lines.{line_short}
 use Rattle.st_lists.specs.Clients.{empty_state}
+use Rattle.st_lists.specs.Lines.{commits_of, edited_on, main_line}
+use Rattle.st_lists.specs.Log.{commits_in}
+use Rattle.st_lists.specs.Open.{with_open}
+use Rattle.st_lists.specs.declared.lists.Client.{Client}
 use Rattle.st_lists.specs.declared.lists.Entry.{Entry}
 use Rattle.st_lists.specs.declared.lists.WorldState.{WorldState}
 use Rattle.st_marks.specs.declared.verdicts.Verdict.{Verdict}
+use Rattle.st_marks.specs.Document.{Document}
+use Rattle.st_marks.specs.Run.{Run}
 use Rattle.st_msg.specs.Messages.{MessageView, message_data}
 use Rattle.st_script.specs.Header.{HeaderView}
 use Rattle.st_script.specs.StepText.{FitsAct, FitsLine, IsUuid}
@@ -20,7 +26,7 @@ use Rattle.st_script.specs.Steps as step
 use Rattle.st_script.specs.declared.answer.Answer.{Answer}
 use Rattle.st_texts.specs.Texts.{IsMessageOf}
 use Rattle.st_valid_laws.specs.Taking.{IsTaken}
-use Rattle.st_world.specs.World.{IsNext, opening_document}
+use Rattle.st_world.specs.World.{HasShown, IsNext, opening_document}
 use Rattle.st_world_laws.specs.Worlds.{IsHeader, KeepsRules}
 use Rattle.st_world_messages.specs.Steps.{Brings, IsVersion4}
 use Rattle.st_world_messages.specs.Texts.{AreMessagesFrom, AreTaken, SendsTexts, all_taken, no_more_messages, one_message, one_taken}
@@ -136,3 +142,13 @@ taken_from h n w t few i (d ∷ ds) (one_message v y rest) =
 
 pub all_are_taken : (h : HeaderView) (n : ℕ) (w : WorldState) → SendsTexts h n w → n ≤ most_ids → (ds : List Data) → AreMessagesFrom (opening_document h) w.log 0 ds → AreTaken (opening_document h) [] ds w.log
 all_are_taken h n w t few ds are = taken_from h n w t few 0 ds are
+
+-- ## What is shown at the end
+
+pub shown_whole : (O D : Document) (log : List Entry) (c : Client) → c.received ≡ length log → c.pending ≡ [] → c.transaction ≡ None → HasShown O log (main_line c) D → Run O (commits_in log) D
+shown_whole O D log c received pending none shown =
+    let whole : take c.received log ≡ log = take_all c.received log (omega (arith, received)) in
+    let all : commits_of log (main_line c) ≡ commits_in log = ap₂ (λ l own. commits_in l ++ own) whole pending ∙ append-nil (commits_in log) in
+    let head : Run O (commits_in log) shown.0 = subst (λ Ns. Run O Ns shown.0) all shown.1 in
+    let ended : D ≡ shown.0 = shown.2 ∙ ap (λ t. with_open shown.0 (edited_on (record (main_line c) { transaction = t }))) none in
+    subst (λ E. Run O (commits_in log) E) (sym ended) head

@@ -1,14 +1,18 @@
 //! Laws on the messages of a world: each is the contract of a function that does nothing.
-ghost use Rattle.std.specs.Prelude.{◌≡◌, ◌≤◌, ◌+◌, [], ℕ, List, Option as Maybe, Some, slice_get, take};
+ghost use Rattle.std.specs.Prelude.{◌≡◌, ◌≤◌, ◌+◌, [], ℕ, List, Option as Maybe, None, Some, length, slice_get, take};
 ghost use Rattle.serde_json.specs.Data.{Data};
 ghost use Rattle.st_clusters.specs.Table.{most_ids};
 ghost use Rattle.st_lists.specs.Clients.{empty_state};
+ghost use Rattle.st_lists.specs.Lines.{main_line};
+ghost use Rattle.st_lists.specs.Log.{commits_in};
 ghost use Rattle.st_lists.specs.Names.{names_made};
+ghost use Rattle.st_lists.specs.declared.lists.Client.{Client};
 ghost use Rattle.st_lists.specs.declared.lists.Entry.{Entry};
 ghost use Rattle.st_lists.specs.declared.lists.WorldState.{WorldState};
 ghost use Rattle.st_marks.specs.Document.{Document, IsSoundInForm};
 ghost use Rattle.st_marks.specs.Embedding.{IsEmbedding};
 ghost use Rattle.st_marks.specs.Intent.{Fits};
+ghost use Rattle.st_marks.specs.Run.{Run};
 ghost use Rattle.st_marks.specs.declared.changes.Change.{Change};
 ghost use Rattle.st_marks.specs.declared.intents.Intent.{Intent};
 ghost use Rattle.st_marks.specs.declared.verdicts.Verdict.{Verdict};
@@ -23,7 +27,7 @@ ghost use Rattle.st_valid.specs.declared.message.Message.{Message};
 ghost use Rattle.st_valid.specs.declared.message.ReplayCause.TheVariants as cause;
 ghost use Rattle.st_valid_laws.specs.Messages.{IsValid, IsValidLog, Passes};
 ghost use Rattle.st_valid_laws.specs.Taking.{IsTaken};
-ghost use Rattle.st_world.specs.World.{IsNext, opening_document};
+ghost use Rattle.st_world.specs.World.{HasShown, IsNext, opening_document};
 ghost use Rattle.st_world_laws.specs.Worlds.{IsHeader, IsWorld, KeepsRules};
 ghost use Rattle.st_seen_laws.specs.Told.{Tells};
 ghost use Rattle.st_world_messages.specs.Messages.{IsMessageAt};
@@ -164,4 +168,12 @@ pub fn world_logs_are_replayed()
         → SendsTexts h steps w → steps ≤ most_ids
         → AreMessagesFrom (opening_document h) w.log 0 texts
         → AreTaken (opening_document h) [] texts w.log }
+{}
+
+/// A client that received all of a log, and has nothing pending and no transaction open, shows the
+/// document to which the log's commits lead: that whose tree a replay of the log tells at its end.
+pub fn replayed_logs_are_shown()
+    ensures { (O D : Document) (log : List Entry) (c : Client) → c.received ≡ length log
+        → c.pending ≡ [] → c.transaction ≡ None → HasShown O log (main_line c) D
+        → Run O (commits_in log) D }
 {}
