@@ -292,3 +292,33 @@ second_ends (Fill c n) xs e = refl
 
 pub behind_alike : (a : CellMark) (X Y xs : List CellMark) → X ≡ a ∷ xs → is_made a ≡ false → Y ≡ [] → beside X Y ≡ []
 behind_alike a X Y xs e m f = rw (e, f) (second_ends a xs m)
+
+-- ## In turn, where nobody asks whether the second finds what the first leaves
+
+-- one cell of each
+pub both_in_turn : (a b : CellMark) (X Y xs ys : List CellMark) → X ≡ a ∷ xs → Y ≡ b ∷ ys → is_made b ≡ false
+    → (in_turn X Y ≡ Both a b ∷ in_turn xs ys) × (length xs + length ys < length X + length Y) × (length (cells_before Y) ≡ 1 + length (cells_before ys))
+both_in_turn a b X Y xs ys e f l = rw (e, f) (
+  in_turn-both a b xs ys l,
+  omega arith,
+  (let n : length (cells_before (b ∷ ys)) ≡ suc (length (cells_before ys)) = ap length (shown-before b ys l) in omega (arith, n)),
+)
+
+-- the first ends
+none_in_turn : (y : CellMark) (ys : List CellMark) → is_made y ≡ false → in_turn [] (y ∷ ys) ≡ []
+none_in_turn Counted ys e = refl
+none_in_turn (Gap c) ys e = refl
+none_in_turn (Touch c n h) ys e = refl
+none_in_turn (Make c n b) ys e = cc
+none_in_turn (Fill c n) ys e = refl
+
+pub alone_in_turn : (X Y : List CellMark) (y : Head) (rest : List Mark) → X ≡ [] → IsFirst Y y rest → is_make y ≡ false → in_turn X Y ≡ []
+alone_in_turn X Y Head.End rest e h m = rw (e, h.0) refl
+alone_in_turn X Y (Head.Many zero) rest e h m = absurd (omega (arith, h.0))
+alone_in_turn X Y (Head.Many (suc k)) rest e h m = rw (e, h.1) refl
+alone_in_turn X Y (Head.Make a) rest e h m = cc
+alone_in_turn X Y (Head.Cell a) rest e h m = rw (e, h.1) (none_in_turn (cell_of a.now) (spread rest) h.2)
+
+-- the second ends
+pub behind_in_turn : (X Y : List CellMark) → Y ≡ [] → in_turn X Y ≡ []
+behind_in_turn X Y f = rw f refl

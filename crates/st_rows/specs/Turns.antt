@@ -59,6 +59,10 @@ IsTurnBeside xs ys turn = IsTurn beside difference_beside xs ys turn
 abbrev pub IsTurnAlike : List CellMark → List CellMark → Turn → Type 0
 IsTurnAlike xs ys turn = IsTurn beside no_difference xs ys turn
 
+-- and in turn, where it isn't asked whether the second finds what the first leaves
+abbrev pub IsTurnInTurnAlike : List CellMark → List CellMark → Turn → Type 0
+IsTurnInTurnAlike xs ys turn = IsTurn in_turn no_difference xs ys turn
+
 -- ## A row and a step
 
 -- each cell that the step finds, full as the step leaves it, and those that it makes

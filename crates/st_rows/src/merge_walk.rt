@@ -12,7 +12,7 @@ ghost use Rattle.st_rows.specs.Turns.{IsTurn};
 ghost use Rattle.st_rows.specs.Walks.{CellPiece, Both, First, Then, in_turn, beside};
 
 use crate::mark_builder::push;
-use crate::pieces::{Piece, Turn, turn_alike, turn_beside, turn_in_turn};
+use crate::pieces::{Piece, Turn, turn_alike, turn_beside, turn_in_turn, turn_in_turn_alike};
 use st_ids::{List, Or};
 use st_kind::Apart;
 use st_marks::Mark;
@@ -101,6 +101,9 @@ struct Beside;
 /// It isn't asked whether both listings find the same.
 struct Alike;
 
+/// In turn, where it isn't asked whether the second listing finds what the first leaves.
+struct InTurnAlike;
+
 impl Walk for InTurn {
     ghost use Rattle.st_rows.specs.Turns.{difference_in_turn};
     ghost use Rattle.st_rows.specs.Walks.{in_turn};
@@ -140,6 +143,20 @@ impl Walk for Alike {
     #[inline(always)]
     fn turn<'a>(x_count: u32, xs: &'a [Mark], y_count: u32, ys: &'a [Mark]) -> Turn<'a> {
         turn_alike(x_count, xs, y_count, ys)
+    }
+}
+
+impl Walk for InTurnAlike {
+    ghost use Rattle.st_rows.specs.Turns.{no_difference};
+    ghost use Rattle.st_rows.specs.Walks.{in_turn};
+
+    ghost pieces = { in_turn };
+
+    ghost difference = { no_difference };
+
+    #[inline(always)]
+    fn turn<'a>(x_count: u32, xs: &'a [Mark], y_count: u32, ys: &'a [Mark]) -> Turn<'a> {
+        turn_in_turn_alike(x_count, xs, y_count, ys)
     }
 }
 
@@ -275,6 +292,25 @@ pub fn lay_alike<T: Table>(
     ensures cells { IfOk result (λ marks. spread marks ≡ map (T.cell table.now) (beside (spread first.now) (spread then.now))) }
 {
     match lay::<Alike, T>(alloc, table, first, then) {
+        Ok(marks) => Ok(marks),
+        Err(Or::NoMemory) => Err(AllocError),
+        Err(Or::Fault(_)) => unreachable!(),
+    }
+}
+
+/// Lays a listing over one that finds what it leaves, as `lay_in_turn` does, but doesn't ask whether it does: so one may count an
+/// empty cell that the other names. Where one listing ends, the walk ends. `then` is of fewer than 2^32 cells.
+pub fn lay_in_turn_alike<T: Table>(
+    alloc: Global,
+    table: &T,
+    first: &[Mark],
+    then: &[Mark],
+) -> Result<List<Mark>, AllocError>
+    requires { length (spread then.now) < 2 ^ 32 }
+    ensures merged { IfOk result (λ marks. IsMerged marks) }
+    ensures cells { IfOk result (λ marks. spread marks ≡ map (T.cell table.now) (in_turn (spread first.now) (spread then.now))) }
+{
+    match lay::<InTurnAlike, T>(alloc, table, first, then) {
         Ok(marks) => Ok(marks),
         Err(Or::NoMemory) => Err(AllocError),
         Err(Or::Fault(_)) => unreachable!(),

@@ -2,7 +2,7 @@
 ghost use Rattle.std.specs.Prelude.{◌≡◌, ◌<◌, false, List as Seq};
 ghost use Rattle.st_marks.specs.Row.{CellMark};
 ghost use Rattle.st_rows.specs.Heads.{marks_left, is_make, AreCountsOf, IsFirst, IsMakeOf, IsOne};
-ghost use Rattle.st_rows.specs.Turns.{IsTurnAlike, IsTurnInTurn, IsTurnBeside};
+ghost use Rattle.st_rows.specs.Turns.{IsTurnAlike, IsTurnInTurn, IsTurnInTurnAlike, IsTurnBeside};
 
 use crate::cell_view::{finds_left, finds_same};
 use crate::front_mark::{Head, next};
@@ -100,6 +100,7 @@ fn counted_turn<'a>(p: u32, xs: &'a [Mark], q: u32, ys: &'a [Mark]) -> Turn<'a>
     ensures in_turn { 0 < p → 0 < q → IsTurnInTurn (marks_left p xs.now) (marks_left q ys.now) result }
     ensures beside { 0 < p → 0 < q → IsTurnBeside (marks_left p xs.now) (marks_left q ys.now) result }
     ensures alike { 0 < p → 0 < q → IsTurnAlike (marks_left p xs.now) (marks_left q ys.now) result }
+    ensures in_turn_alike { 0 < p → 0 < q → IsTurnInTurnAlike (marks_left p xs.now) (marks_left q ys.now) result }
 {
     let count = if p < q { p } else { q };
     Turn::Counted {
@@ -312,5 +313,63 @@ pub fn turn_alike<'a>(x_count: u32, xs: &'a [Mark], y_count: u32, ys: &'a [Mark]
             xs: x_rest,
         },
         None => turn_found_alike(x, x_rest, y_count, ys),
+    }
+}
+
+/// The next cell of two listings in turn, where it isn't asked whether the second finds what the first leaves.
+#[inline(always)]
+fn pair_in_turn_alike<'a>(x: Head<'a>, xs: &'a [Mark], y: Head<'a>, ys: &'a [Mark]) -> Turn<'a>
+    requires { is_make y ≡ false }
+    ensures { (c d : Seq CellMark) → IsFirst c x.entry xs.now → IsFirst d y.entry ys.now → IsTurnInTurnAlike c d result }
+{
+    match one(x) {
+        None => Turn::Done,
+        Some((a, x_count)) => match one(y) {
+            None => Turn::Done,
+            Some((b, y_count)) => Turn::Both {
+                x: a,
+                y: b,
+                x_count,
+                xs,
+                y_count,
+                ys,
+            },
+        },
+    }
+}
+
+/// One turn of two listings in turn, where the second makes no cell.
+#[inline(always)]
+fn found_in_turn_alike<'a>(x: Head<'a>, xs: &'a [Mark], y: Head<'a>, ys: &'a [Mark]) -> Turn<'a>
+    requires { is_make y ≡ false }
+    ensures { (c d : Seq CellMark) → IsFirst c x.entry xs.now → IsFirst d y.entry ys.now → IsTurnInTurnAlike c d result }
+{
+    match counts_of(x, y) {
+        Some((p, q)) => counted_turn(p, xs, q, ys),
+        None => pair_in_turn_alike(x, xs, y, ys),
+    }
+}
+
+/// One turn of a walk of two listings in turn that doesn't ask whether the second finds what the first leaves; so many counted
+/// cells stand before the marks.
+#[inline(always)]
+pub fn turn_in_turn_alike<'a>(
+    x_count: u32,
+    xs: &'a [Mark],
+    y_count: u32,
+    ys: &'a [Mark],
+) -> Turn<'a>
+    ensures { IsTurnInTurnAlike (marks_left x_count xs.now) (marks_left y_count ys.now) result }
+{
+    let (y, y_rest) = next(y_count, ys);
+    match make_of(y) {
+        Some(made) => Turn::Then {
+            y: made,
+            ys: y_rest,
+        },
+        None => {
+            let (x, x_rest) = next(x_count, xs);
+            found_in_turn_alike(x, x_rest, y, y_rest)
+        }
     }
 }

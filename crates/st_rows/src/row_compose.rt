@@ -14,12 +14,12 @@ ghost use Rattle.st_rows.specs.Reading.{cell_of};
 ghost use Rattle.st_rows.specs.Pieces.{IsSingle};
 ghost use Rattle.st_rows.specs.Rows.{IsRowStep, NamesLeavers};
 
-use crate::merge_walk::{Table, lay_in_turn};
+use crate::merge_walk::{Table, lay_in_turn, lay_in_turn_alike};
 use crate::pieces::Piece;
 use st_ids::{CellId, List, NodeId, Or};
 use st_kind::Apart;
 use st_marks::{How, Mark};
-use std::alloc::Global;
+use std::alloc::{AllocError, Global};
 
 /// What is said together of a cell that the first listing fills.
 fn filled_mark(cell: CellId, node: NodeId, then: Mark) -> Mark
@@ -121,6 +121,19 @@ pub fn compose(
     lay_in_turn(alloc, &Steps, first.as_slice(), then.as_slice())
 }
 
+/// The first step and then the second, which has fewer than 2^32 cells, where it isn't asked whether the second finds what the first
+/// leaves: so either may count empty cells that the other names.
+pub fn compose_alike(
+    alloc: Global,
+    first: &List<Mark>,
+    then: &List<Mark>,
+) -> Result<List<Mark>, AllocError>
+    requires { length (spread then.now) < 2 ^ 32 }
+    ensures { IfOk result (λ s. s ≡ merge (compose_row (spread first.now) (spread then.now))) }
+{
+    lay_in_turn_alike(alloc, &Steps, first.as_slice(), then.as_slice())
+}
+
 /// What the marks of two changes say together of one cell.
 fn joined_mark(first: Mark, then: Mark) -> Mark
     requires first { IsSingle first }
@@ -181,4 +194,17 @@ pub fn join(alloc: Global, first: &List<Mark>, then: &List<Mark>) -> Result<List
     ensures apart { IsApartWhere result (DifferAt (cells_after (spread first.now)) (cells_before (spread then.now))) }
 {
     lay_in_turn(alloc, &Changes, first.as_slice(), then.as_slice())
+}
+
+/// Two changes of one commit in turn as one, where it isn't asked whether the second finds what the first leaves: so either may
+/// count empty cells that the other names. The second has fewer than 2^32 cells.
+pub fn join_alike(
+    alloc: Global,
+    first: &List<Mark>,
+    then: &List<Mark>,
+) -> Result<List<Mark>, AllocError>
+    requires { length (spread then.now) < 2 ^ 32 }
+    ensures { IfOk result (λ marks. marks ≡ merge (join_row (spread first.now) (spread then.now))) }
+{
+    lay_in_turn_alike(alloc, &Changes, first.as_slice(), then.as_slice())
 }
