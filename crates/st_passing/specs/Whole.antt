@@ -64,7 +64,7 @@ raised_change C S = record C { rows = map (raise_row S.rows) C.rows }
 abbrev pub raised_step : Change → Step → Step
 raised_step C S = record S { rows = map (raise_row_beside C.rows) S.rows }
 
--- ## The statement for whole changes, which is open
+-- ## The statement for whole changes
 
 abbrev pub ChangesPass : Type 0
 ChangesPass = (D E : Document) (N : Intent) (C : Change) (S : Step) (v : Verdict) → IsExtendedBy D E → Fits D N → Fits E N → IsVerdict D N v

@@ -135,8 +135,9 @@ fn count_at(marks: &mut List<Mark>, place: u32) -> Result<(), AllocError>
     }
 }
 
-/// Counts the cells that a step makes.
-fn raise(marks: &mut List<Mark>, step: &[Mark]) -> Result<(), AllocError>
+/// Counts the cells that a step makes, in a change's row that finds as many cells as the step does: where the two don't meet, the
+/// change's row after the step is this. After an `Err` the row is spent.
+pub fn raise_counts(marks: &mut List<Mark>, step: &[Mark]) -> Result<(), AllocError>
     requires room { length (spread marks.old) + length (spread step.now) < 2 ^ 32 }
     ensures cells { OnOk result (spread marks.new ≡ with_counts 0 (spread marks.old) (spread step.now)) }
     ensures merged { IsMerged marks.old → OnOk result (IsMerged marks.new) }
@@ -323,7 +324,7 @@ pub fn raise_in_place(marks: &mut List<Mark>, step: &[Mark]) -> Result<bool, All
     ensures unchanged { IfOk result (λ b. b ≡ false → marks.new ≡ marks.old) }
 {
     if does_not_meet(marks.as_slice(), step) {
-        raise(marks, step)?;
+        raise_counts(marks, step)?;
         Ok(true)
     } else {
         Ok(false)

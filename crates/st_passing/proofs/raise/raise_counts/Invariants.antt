@@ -2,7 +2,7 @@ use Rattle.std.proofs.Common.{◌≡◌, ◌<◌, ◌+◌, ◌^◌, length}
 use Rattle.st_marks.specs.Row.{spread}
 use Rattle.st_rows.specs.Merged.{IsMerged}
 use Rattle.st_passing.specs.Raising.{with_counts}
-use Rattle.st_passing.proofs.raise.raise.Given as goal
+use Rattle.st_passing.proofs.raise.raise_counts.Given as goal
 
 abbrev pub invariant-loop-rest : goal.invariant-loop-rest
 invariant-loop-rest l = record {

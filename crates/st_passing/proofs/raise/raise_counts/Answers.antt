@@ -1,7 +1,7 @@
 use Rattle.std.proofs.Common.{◌<◌, ◌+◌, ◌^◌, ◌∙◌, ap, rules, arith, length}
 use Rattle.st_marks.specs.Row.{spread}
 use Rattle.st_passing.proofs.Seats.{count-length, make_length, one_make, one_skip, skip_length}
-use Rattle.st_passing.proofs.raise.raise.Goals as goal
+use Rattle.st_passing.proofs.raise.raise_counts.Goals as goal
 
 pub overflow_add-place : goal.overflow_add-place
 overflow_add-place c =
