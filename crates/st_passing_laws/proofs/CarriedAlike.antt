@@ -27,11 +27,14 @@ module _ (D E : Document) (N : Intent) (x : IsExtendedBy D E) (f : Fits D N) (e 
       go None h = refl
       go (Some to) h = ap (λ (s : Spot). option_map_or (is_new N) (node_of s) false) (put_alike D E N x f e stay n to h)
 
+  pub void_data_alike : (void_data D N).place n ≡ (void_data E N).place n
+  void_data_alike = λ i. cond (is_new N n && in_new_alike i) (place_alike D E N x f e stay n r i) (stands_alike D E N x f e stay n r i)
+
   void_alike : (void D N).place n ≡ (void E N).place n
   void_alike = go N.schema
     where
       go : (o : Option (List ℕ)) → (option_map_or (λ _. D) o (void_data D N)).place n ≡ (option_map_or (λ _. E) o (void_data E N)).place n
-      go None = λ i. cond (is_new N n && in_new_alike i) (place_alike D E N x f e stay n r i) (stands_alike D E N x f e stay n r i)
+      go None = void_data_alike
       go (Some text) = stands_alike D E N x f e stay n r
 
   pub stands_after : (v : Verdict) → (carried_document v D N).place n ≡ (carried_document v E N).place n
@@ -49,7 +52,7 @@ gained_beside n None (Some b) None h = refl
 gained_beside n None e (Some t) h = sym (ap (gained_node n None) (h refl).1)
 
 module _ (D E : Document) (N : Intent) (f : Fits D N) (e : Fits E N) (n : NodeId) where
-  named_alike : gained_node n (option_or (D.nodes n) (new_type N n)) (option_or (E.nodes n) (new_type N n)) ≡ gained_node n (D.nodes n) (E.nodes n)
+  pub named_alike : gained_node n (option_or (D.nodes n) (new_type N n)) (option_or (E.nodes n) (new_type N n)) ≡ gained_node n (D.nodes n) (E.nodes n)
   named_alike = gained_beside n (D.nodes n) (E.nodes n) (new_type N n) (λ h. (f.fresh_nodes n h, e.fresh_nodes n h))
 
   void_gained : gained_node n ((void D N).nodes n) ((void E N).nodes n) ≡ gained_node n (D.nodes n) (E.nodes n)

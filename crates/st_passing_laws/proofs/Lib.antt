@@ -4,3 +4,6 @@ pub mod MentionedLeft
 pub mod RowsRaised
 pub mod ChangesLeft
 pub mod CarriedAlike
+pub mod PlacesAcross
+pub mod RowsAcross
+pub mod StepMentioned

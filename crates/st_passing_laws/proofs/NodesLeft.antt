@@ -109,7 +109,7 @@ all_counts (Fill c n ∷ xs) h = cc
 
 -- ## Registers and nodes that are nowhere
 
-or_true : (a b : Bool) → b ≡ true → (a || b) ≡ true
+pub or_true : (a b : Bool) → b ≡ true → (a || b) ≡ true
 or_true true b e = refl
 or_true false b e = e
 
@@ -186,7 +186,7 @@ module _ (D E : Document) (N : Intent) (C : Change) (S : Step) (x : IsExtendedBy
       let at : holds_mentioned p.mentioned (D.held f) ≡ true = ap (holds_mentioned change.mentioned) e ∙ (change.which k).1 m in
       sym (listed_register f p refl (or_true p.clear (holds_mentioned p.mentioned (D.held f)) at)) ∙ e
 
-  known_climb : (j : ℕ) (s k : NodeId) → IsSome (D.nodes s) → climb (above D) j s ≡ Some k → IsSome (D.nodes k)
+  pub known_climb : (j : ℕ) (s k : NodeId) → IsSome (D.nodes s) → climb (above D) j s ≡ Some k → IsSome (D.nodes k)
   known_climb zero s k h e = let q : s ≡ k = cc in subst (λ n. IsSome (D.nodes n)) q h
   known_climb (suc j) s k h e = go (above D s) refl (λ p w. known_climb j p k w) e
     where

@@ -30,7 +30,7 @@ use Rattle.st_passing.specs.Whole.{LeavesMentioned}
 -- ## Two ways up that agree wherever the first leads
 
 module _ (up vp : NodeId → Option NodeId) (P : NodeId → Type 0) (same : (n : NodeId) → P n → up n ≡ vp n) (closed : (n p : NodeId) → P n → up n ≡ Some p → P p) where
-  climb_alike : (k : ℕ) (n : NodeId) → P n → climb up k n ≡ climb vp k n
+  pub climb_alike : (k : ℕ) (n : NodeId) → P n → climb up k n ≡ climb vp k n
   climb_alike zero n h = refl
   climb_alike (suc k) n h = go (up n) refl (λ p w. climb_alike k p w)
     where
@@ -157,7 +157,7 @@ module _ (D E : Document) (N : Intent) (x : IsExtendedBy D E) (f : Fits D N) (e 
   full_climbs_alike : (k : ℕ) (n : NodeId) → IsReached n → climb (above (full D N)) k n ≡ climb (above (full E N)) k n
   full_climbs_alike = climb_alike (λ n. above (full D N) n) (λ n. above (full E N) n) IsReached (λ n r. ap node_of (place_alike n r)) reached_above
 
-  put_reached : (n : NodeId) → IsSome (put_of N n) → IsReached n
+  pub put_reached : (n : NodeId) → IsSome (put_of N n) → IsReached n
   put_reached n h = go (put_of N n) refl h
     where
       go : (o : Option To) → put_of N n ≡ o → IsSome o → IsReached n

@@ -1,5 +1,5 @@
 //! Laws on whole changes and the steps that they pass: each is the contract of a function that does nothing.
-ghost use Rattle.std.specs.Prelude.{◌≡◌, ◌⊎◌, IsTrue, false};
+ghost use Rattle.std.specs.Prelude.{◌≡◌, ◌↔◌, ◌⊎◌, IsTrue, false};
 ghost use Rattle.st_ids.specs.declared.names.NodeId.{NodeId};
 ghost use Rattle.st_marks.specs.declared.changes.Change.{Change};
 ghost use Rattle.st_marks.specs.declared.intents.Intent.{Intent};
@@ -9,7 +9,7 @@ ghost use Rattle.st_marks.specs.Document.{Document};
 ghost use Rattle.st_marks.specs.Extends.{IsExtendedBy};
 ghost use Rattle.st_marks.specs.Embedding.{IsMentionedByIntent};
 ghost use Rattle.st_marks.specs.Intent.{Fits, is_new};
-ghost use Rattle.st_marks.specs.Step.{gained_node};
+ghost use Rattle.st_marks.specs.Step.{IsMentionedByStep, gained_node};
 ghost use Rattle.st_marks.specs.Verdict.{IsVerdict, carried_document};
 ghost use Rattle.st_passing.specs.Whole.{LeavesMentioned, Passes, raised_change};
 ghost use Rattle.st_read_laws.specs.Reading.{IsRead, IsStepRead};
@@ -72,4 +72,11 @@ pub fn nodes_stand_alike()
 pub fn new_nodes_pass()
     ensures { (D E : Document) (N : Intent) (v : Verdict) (n : NodeId) → Fits D N → Fits E N
         → gained_node n ((carried_document v D N).nodes n) ((carried_document v E N).nodes n) ≡ gained_node n (D.nodes n) (E.nodes n) }
+{}
+
+/// Where a change and a step pass each other, the step mentions the same nodes after the change, whatever the verdict is.
+pub fn mentioned_nodes_pass()
+    ensures { (D E : Document) (N : Intent) (C : Change) (S : Step) (v : Verdict) (n : NodeId) → IsExtendedBy D E → Fits D N → Fits E N
+        → IsRead false D N C → IsStepRead false D E S → Passes C S
+        → IsMentionedByStep D E n ↔ IsMentionedByStep (carried_document v D N) (carried_document v E N) n }
 {}
