@@ -7,3 +7,4 @@ pub mod CarriedAlike
 pub mod PlacesAcross
 pub mod RowsAcross
 pub mod StepMentioned
+pub mod StepsRaised
