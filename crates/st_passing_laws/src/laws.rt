@@ -11,7 +11,7 @@ ghost use Rattle.st_marks.specs.Embedding.{IsMentionedByIntent};
 ghost use Rattle.st_marks.specs.Intent.{Fits, is_new};
 ghost use Rattle.st_marks.specs.Step.{IsMentionedByStep, gained_node};
 ghost use Rattle.st_marks.specs.Verdict.{IsVerdict, carried_document};
-ghost use Rattle.st_passing.specs.Whole.{LeavesMentioned, Passes, raised_change, raised_step};
+ghost use Rattle.st_passing.specs.Whole.{ChangesPass, LeavesMentioned, Passes, raised_change, raised_step};
 ghost use Rattle.st_read_laws.specs.Reading.{IsRead, IsStepRead};
 
 /// Where the step moves none of the nodes that an intent mentions, and the same schemas are in effect, the intent has the same
@@ -87,4 +87,10 @@ pub fn steps_pass()
     ensures { (D E : Document) (N : Intent) (C : Change) (S : Step) (v : Verdict) → IsExtendedBy D E → Fits D N → Fits E N
         → IsRead false D N C → IsStepRead false D E S → Passes C S
         → IsStepRead false (carried_document v D N) (carried_document v E N) (raised_step C S) }
+{}
+
+/// So a whole change and a whole step that pass each other: the verdict stays, and each is after the other what it was before, with
+/// raised counts.
+pub fn whole_changes_pass()
+    ensures { ChangesPass }
 {}

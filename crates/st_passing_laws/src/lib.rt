@@ -6,5 +6,5 @@ mod laws;
 pub use laws::{
     bases_pass, changes_pass, loose_nodes_pass, mentioned_nodes_pass, new_nodes_pass,
     nodes_stand_alike, passing_steps_leave_mentioned, registers_pass, steps_pass, verdicts_pass,
-    verdicts_stay,
+    verdicts_stay, whole_changes_pass,
 };
