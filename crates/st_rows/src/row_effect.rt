@@ -3,7 +3,7 @@ ghost use Rattle.std.specs.Prelude.{◌≡◌, ◌^◌, ◌<◌, ◌∷◌, [], 
 ghost use Rattle.st_ids.specs.Listing.{IsRising};
 ghost use Rattle.st_ids.specs.Order.{node_cmp};
 ghost use Rattle.st_marks.specs.declared.places.Slot.{Slot};
-ghost use Rattle.st_marks.specs.Row.{RowPart, spread};
+ghost use Rattle.st_marks.specs.Row.{RowPart, merge, spread};
 ghost use Rattle.st_rows.specs.Cells.{effect_row, void_row};
 ghost use Rattle.st_rows.specs.Changes.{AreOld, IsRowChange, carried_row, placed_by, void_part};
 ghost use Rattle.st_rows.specs.Merged.{IsMerged};
@@ -48,10 +48,11 @@ fn effected_marks(alloc: Global, change: &[Mark]) -> Result<List<Mark>, AllocErr
     Ok(out)
 }
 
-/// The step that carries a change out.
+/// The step that carries a change out: what it says of each cell is what the change says of it, carried out.
 pub fn effect(alloc: Global, change: &List<Mark>) -> Result<List<Mark>, AllocError>
     requires { length (spread change.now) < 2 ^ 32 }
-    ensures { (p : RowPart) (c : Seq Slot) → IsRowChange p c change.now → IfOk result (λ s. IsRowStep p.mentioned c (carried_row p c) s) }
+    ensures carried { (p : RowPart) (c : Seq Slot) → IsRowChange p c change.now → IfOk result (λ s. IsRowStep p.mentioned c (carried_row p c) s) }
+    ensures marks { IfOk result (λ s. s ≡ merge (effect_row (spread change.now))) }
 {
     effected_marks(alloc, change.as_slice())
 }
@@ -98,7 +99,8 @@ fn voided_marks(
 }
 
 /// The step of a void change: its cells are made, and none but new nodes are put there, and those only where the row is
-/// that of a new node (`in_new`). `new` has the commit's new nodes that the marks make, in rising order.
+/// that of a new node (`in_new`). What the step says of each cell follows from what the change says of it. `new` has the
+/// commit's new nodes that the marks make, in rising order.
 pub fn void_effect(
     alloc: Global,
     change: &List<Mark>,
@@ -107,8 +109,9 @@ pub fn void_effect(
 ) -> Result<List<Mark>, AllocError>
     requires rising { IsRising node_cmp (λ n. n) new.now }
     requires short { length (spread change.now) < 2 ^ 32 }
-    ensures { (p : RowPart) (c : Seq Slot) → IsRowChange p c change.now → AreOld (placed_by in_new new.now) c
+    ensures carried { (p : RowPart) (c : Seq Slot) → IsRowChange p c change.now → AreOld (placed_by in_new new.now) c
         → IfOk result (λ s. IsRowStep p.mentioned c (carried_row (void_part (placed_by in_new new.now) p) c) s) }
+    ensures marks { IfOk result (λ s. s ≡ merge (void_row (placed_by in_new new.now) (spread change.now))) }
 {
     voided_marks(alloc, change.as_slice(), in_new, new)
 }
