@@ -1,0 +1,4 @@
+pub mod RowsNamed
+pub mod ShortRows
+pub mod SlotsRead
+pub mod WholeNamed
