@@ -1,0 +1,2 @@
+pub mod TestsTell
+pub mod RoomOfRows
