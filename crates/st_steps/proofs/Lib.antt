@@ -19,5 +19,6 @@ pub mod WaysBack
 pub mod NodesFound
 pub mod ToldTogether
 pub mod ShortRows
+pub mod ShownInTurn
 pub mod ShortSteps
 pub mod ToldBack

@@ -31,7 +31,7 @@ use Rattle.st_steps.proofs.ToldTogether.{item_of-map}
 
 -- ## A list that is mapped
 
-map-same : {A B : Type 0} (f g : A → B) (xs : List A) → ((x : A) → Has xs x → f x ≡ g x) → map f xs ≡ map g xs
+pub map-same : {A B : Type 0} (f g : A → B) (xs : List A) → ((x : A) → Has xs x → f x ≡ g x) → map f xs ≡ map g xs
 map-same f g [] h = refl
 map-same f g (x ∷ xs) h = λ i. h x (inl refl) i ∷ map-same f g xs (λ y w. h y (inr w)) i
 
@@ -44,7 +44,7 @@ module _ {K A : Type 0} (R : K → K → Ordering) (key : A → K) (f : A → A)
   rising-map [] = refl
   rising-map (x ∷ xs) = λ i. (ap (λ j. below_all R j (key_pairs key (map f xs))) (keeps x) ∙ below-map xs (key x)) i && rising-map xs i
 
-  listing-map : (xs ys : List A) → IsRising R key xs → ys ≡ map f xs → IsListing R key ys (λ k. option_map f (item_of R key xs k))
+  pub listing-map : (xs ys : List A) → IsRising R key xs → ys ≡ map f xs → IsListing R key ys (λ k. option_map f (item_of R key xs k))
   listing-map xs ys rising e = record {
     rising = subst (IsRising R key) (sym e) (rising-map xs ∙ rising);
     at_each = λ k. ap (λ l. item_of R key l k) e ∙ item_of-map R key f keeps xs k;

@@ -1,5 +1,5 @@
--- Two steps in turn, each name told in two listings as one, over documents: what both say together.
-use Rattle.std.proofs.Common.{◌≡◌, Bool, true, false, ◌||◌, List, [], ◌∷◌, map, Option, Some, None, option_and_then, option_map, is_some, cond, refl, sym, ap, ◌∙◌}
+-- Two steps in turn, each name told in two listings as one: what both say together.
+use Rattle.std.proofs.Common.{◌≡◌, Bool, true, false, ◌||◌, List, [], ◌∷◌, map, Option, Some, None, option_and_then, option_map, cond, refl, sym, ap, ◌∙◌}
 use Rattle.std.proofs.lemmas.Map.Lookups.{CmpEqualImpliesEq}
 use Rattle.std.specs.Cmp.{IsTotalOrder}
 use Rattle.std.specs.List.{filter_map}
@@ -18,17 +18,10 @@ use Rattle.st_marks.specs.declared.marks.RegStep.{RegStep}
 use Rattle.st_marks.specs.declared.marks.RowMarks.{RowMarks}
 use Rattle.st_marks.specs.declared.places.Spot.{Spot}
 use Rattle.st_marks.specs.declared.steps.Step.{Step}
-use Rattle.st_marks.specs.Document.{Document, content}
-use Rattle.st_marks.specs.Extends.{IsExtendedBy}
-use Rattle.st_marks.specs.Listings.{cells_after, cells_before}
-use Rattle.st_marks.specs.Row.{merge, spread, step_row}
-use Rattle.st_marks.specs.Step.{IsStep}
+use Rattle.st_marks.specs.Row.{merge, spread}
 use Rattle.st_rows.specs.Cells.{compose_row}
-use Rattle.st_rows.specs.Differences.{first_difference}
-use Rattle.st_rows.proofs.ViewsOfRows.{no_difference, step_finds, step_leaves}
-use Rattle.st_puts.proofs.StepPlaces.{row-look}
 use Rattle.st_steps.specs.Turned.{IsInTurn, how_in_turn, loose_in_turn, register_in_turn, row_in_turn}
-use Rattle.st_steps.specs.inside.Told.{ToldInTurn, loose_before, loose_behind, register_behind, row_behind, row_of_both}
+use Rattle.st_steps.specs.inside.Told.{ToldInTurn, loose_before, loose_behind, register_behind, row_behind}
 
 -- ## A list that is mapped
 
@@ -75,10 +68,7 @@ register_keeps : (o : Option RegStep) (t : RegStep) → (register_behind o t).fi
 register_keeps None t = refl
 register_keeps (Some s) t = refl
 
-row_together : (n : NodeId) (s t : RowMarks) → t.node ≡ n → first_difference (cells_after (spread s.marks)) (cells_before (spread t.marks)) ≡ None → row_of_both t.node s.marks t.marks ≡ record { node = n; marks = merge (compose_row (spread s.marks) (spread t.marks)) }
-row_together n s t same none = λ i. record { node = same i; marks = cond (is_some (none i)) s.marks (merge (compose_row (spread s.marks) (spread t.marks))) }
-
-module _ (D E F : Document) (S T : Step) (x : IsExtendedBy D E) (y : IsExtendedBy E F) (s : IsStep D E S) (t : IsStep E F T) where
+module _ (S T : Step) where
   abbrev row_at : List RowMarks → NodeId → Option RowMarks
   row_at = item_of node_cmp (λ (r : RowMarks). r.node)
 
@@ -87,16 +77,6 @@ module _ (D E F : Document) (S T : Step) (x : IsExtendedBy D E) (y : IsExtendedB
 
   abbrev loose_at : List Loose → NodeId → Option Loose
   loose_at = item_of node_cmp (λ (m : Loose). m.node)
-
-  -- what the first leaves of a row is what the second finds
-  no_difference_in : (n : NodeId) (r u : RowMarks) → row_at S.rows n ≡ Some r → row_at T.rows n ≡ Some u → first_difference (cells_after (spread r.marks)) (cells_before (spread u.marks)) ≡ None
-  no_difference_in n r u e f =
-      let p = item_of-has node_cmp node_cmp_total node_cmp_exact (λ (r : RowMarks). r.node) S.rows n r e in
-      let q = item_of-has node_cmp node_cmp_total node_cmp_exact (λ (r : RowMarks). r.node) T.rows n u f in
-      let first : spread r.marks ≡ step_row s.mentioned (s.grows n) = (row-look D E S x s r p.0).0 ∙ ap (λ k. step_row s.mentioned (s.grows k)) p.1 in
-      let second : spread u.marks ≡ step_row t.mentioned (t.grows n) = (row-look E F T y t u q.0).0 ∙ ap (λ k. step_row t.mentioned (t.grows k)) q.1 in
-      (λ i. first_difference (cells_after (first i)) (cells_before (second i)))
-      ∙ no_difference (content E n) (cells_after (step_row s.mentioned (s.grows n))) (cells_before (step_row t.mentioned (t.grows n))) (step_leaves s.mentioned (s.grows n)) (step_finds t.mentioned (t.grows n))
 
   row_told : (n : NodeId) → option_or (row_at (map (λ (r : RowMarks). row_behind (row_at S.rows r.node) r) T.rows) n) (row_at S.rows n) ≡ row_in_turn n (row_at S.rows n) (row_at T.rows n)
   row_told n =
@@ -111,7 +91,7 @@ module _ (D E F : Document) (S T : Step) (x : IsExtendedBy D E) (y : IsExtendedB
           ap (λ o. Some (row_behind o u)) (ap (row_at S.rows) same ∙ e)
       go (Some r) e (Some u) f =
           let same = (item_of-has node_cmp node_cmp_total node_cmp_exact (λ (r : RowMarks). r.node) T.rows n u f).1 in
-          ap (λ o. Some (row_behind o u)) (ap (row_at S.rows) same ∙ e) ∙ ap (λ z. Some z) (row_together n r u same (no_difference_in n r u e f))
+          ap (λ o. Some (row_behind o u)) (ap (row_at S.rows) same ∙ e) ∙ (λ i. Some (record { node = same i; marks = merge (compose_row (spread r.marks) (spread u.marks)) }))
 
   register_told : (f : FieldId) → option_or (reg_at (map (λ (r : RegStep). register_behind (reg_at S.regs r.field) r) T.regs) f) (reg_at S.regs f) ≡ register_in_turn f (reg_at S.regs f) (reg_at T.regs f)
   register_told f =

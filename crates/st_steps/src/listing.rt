@@ -10,10 +10,11 @@ ghost use Rattle.st_marks.specs.Embedding.{is_among};
 ghost use Rattle.st_marks.specs.Extends.{IsExtendedBy};
 ghost use Rattle.st_marks.specs.Listings.{nodes_new, placed_before};
 ghost use Rattle.st_marks.specs.Step.{IsStep};
+ghost use Rattle.st_mention_laws.specs.Shown.{ShowsStep};
 ghost use Rattle.st_trim.specs.Trimmed.{ListsStep};
 ghost use Rattle.st_steps.specs.Short.{HasShortRowsListed};
 ghost use Rattle.st_steps.specs.Turned.{TellsTurn, named_in_turn};
-ghost use Rattle.st_steps.specs.inside.Told.{AreFieldsTold, ToldInTurn};
+ghost use Rattle.st_steps.specs.inside.Told.{AreFieldsTold, ShowsListed, ToldInTurn};
 
 use crate::loose::{Tables, loose_in_turn};
 use crate::registers::registers_in_turn;
@@ -27,8 +28,8 @@ use std::alloc::{AllocError, Global};
 
 // What two steps in turn tell of nodes: whom the first finds somewhere, whom it makes, and where the second leaves them.
 fn tables_of(alloc: Global, first: &Step, second: &Step) -> Result<Tables, AllocError>
-    ensures { (D E F : Document) → IsExtendedBy D E → IsExtendedBy E F → (s : IsStep D E first.now) → (t : IsStep E F second.now)
-        → IfOk result (λ r. TellsTurn D E F s.mentioned t.mentioned (contains node_cmp r.stood) (contains node_cmp r.new) (get node_cmp r.spots)) }
+    ensures { (D E F : Document) → IsExtendedBy D E → IsExtendedBy E F → (s : ShowsStep D E first.now) → (t : ShowsStep E F second.now)
+        → IfOk result (λ r. TellsTurn D E F s.1.mentioned t.1.mentioned (contains node_cmp r.stood) (contains node_cmp r.new) (get node_cmp r.spots)) }
 {
     let stood = nodes_found(alloc, first)?;
     let new = new_names(alloc, first.new.as_slice())?;
@@ -102,8 +103,10 @@ fn told_by(alloc: Global, first: &Step, second: &Step, tables: &Tables) -> Resul
 /// What two steps in turn say together. It may name more than the step over both.
 pub fn listing_in_turn(alloc: Global, first: &Step, second: &Step) -> Result<Step, AllocError>
     requires { HasShortRowsListed second.now }
-    ensures { (D E F : Document) → IsExtendedBy D E → IsExtendedBy E F → (s : IsStep D E first.now) → (t : IsStep E F second.now)
+    ensures exact { (D E F : Document) → IsExtendedBy D E → IsExtendedBy E F → (s : IsStep D E first.now) → (t : IsStep E F second.now)
         → IfOk result (λ g. ListsStep D F (named_in_turn D s.mentioned t.mentioned) g) }
+    ensures shown { (D E F : Document) → IsExtendedBy D E → IsExtendedBy E F → (s : ShowsStep D E first.now) → (t : ShowsStep E F second.now)
+        → IfOk result (ShowsListed D F (named_in_turn D s.1.mentioned t.1.mentioned)) }
 {
     let tables = tables_of(alloc, first, second)?;
     told_by(alloc, first, second, &tables)

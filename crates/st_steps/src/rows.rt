@@ -8,14 +8,14 @@ ghost use Rattle.st_marks.specs.declared.marks.RowMarks.{RowMarks as Row};
 ghost use Rattle.st_marks.specs.Row.{spread};
 ghost use Rattle.st_steps.specs.inside.Told.{row_behind as behind, row_of_both as both};
 
-use st_ids::{Copied, List, NodeId, Or};
+use st_ids::{Copied, List, NodeId};
 use st_listings::union;
 use st_marks::{Mark, RowMarks};
 use st_moves::{index_rows, row_in};
-use st_rows::compose;
+use st_rows::compose_alike;
 use std::alloc::{AllocError, Global};
 
-// A row that both list; as the first has it where what the first leaves differs from what the second finds.
+// A row that both list.
 fn row_of_both(
     alloc: Global,
     node: NodeId,
@@ -25,14 +25,8 @@ fn row_of_both(
     requires { length (spread second.now) < 2 ^ 32 }
     ensures { IfOk result (λ r. r ≡ both node first.now second.now) }
 {
-    match compose(alloc, first, second) {
-        Ok(marks) => Ok(RowMarks { node, marks }),
-        Err(Or::Fault(_)) => Ok(RowMarks {
-            node,
-            marks: first.copy(alloc)?,
-        }),
-        Err(Or::NoMemory) => Err(AllocError),
-    }
+    let marks = compose_alike(alloc, first, second)?;
+    Ok(RowMarks { node, marks })
 }
 
 // A row of the second step, behind that of the first.

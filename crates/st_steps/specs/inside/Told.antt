@@ -1,5 +1,5 @@
 -- What each of two steps in turn says of a name, told so that the two are one listing.
-use Rattle.std.specs.Prelude.{◌≡◌, List, map, Option, Some, None, is_some, if◌then◌else◌}
+use Rattle.std.specs.Prelude.{◌≡◌, List, map, Option, Some, None, if◌then◌else◌}
 use Rattle.std.specs.List.{filter_map}
 use Rattle.std.specs.Option.{option_or}
 use Rattle.st_ids.specs.Listing.{IsListing, item_of}
@@ -13,16 +13,17 @@ use Rattle.st_marks.specs.declared.marks.RegStep.{RegStep}
 use Rattle.st_marks.specs.declared.marks.RowMarks.{RowMarks}
 use Rattle.st_marks.specs.declared.places.Spot.{Spot}
 use Rattle.st_marks.specs.declared.steps.Step.{Step}
-use Rattle.st_marks.specs.Listings.{cells_after, cells_before}
+use Rattle.st_marks.specs.Document.{Document}
 use Rattle.st_marks.specs.Row.{merge, spread}
+use Rattle.st_mention_laws.specs.Shown.{thin_step}
 use Rattle.st_rows.specs.Cells.{compose_row}
-use Rattle.st_rows.specs.Differences.{first_difference}
 use Rattle.st_listings.specs.Schemas.{schemas_in_turn}
+use Rattle.st_trim.specs.Trimmed.{ListsStep}
 use Rattle.st_steps.specs.Turned.{how_in_turn}
 
--- a row that both list; it stays as the first has it where the two differ
+-- a row that both list
 abbrev pub row_of_both : NodeId → List Mark → List Mark → RowMarks
-row_of_both n s t = record { node = n; marks = if is_some (first_difference (cells_after (spread s)) (cells_before (spread t))) then s else merge (compose_row (spread s) (spread t)) }
+row_of_both n s t = record { node = n; marks = merge (compose_row (spread s) (spread t)) }
 
 -- a row of the second, behind that of the first
 abbrev pub row_behind : Option RowMarks → RowMarks → RowMarks
@@ -54,3 +55,7 @@ pub record ToldInTurn (S T G : Step) (stood new : Nodes) (spots : NodeId → Opt
 pub record AreFieldsTold (S T G : Step) : Type 0 where
   pub rows : IsListing node_cmp (λ (r : RowMarks). r.node) G.rows (λ n. option_or (item_of node_cmp (λ (r : RowMarks). r.node) (map (λ (r : RowMarks). row_behind (item_of node_cmp (λ (q : RowMarks). q.node) S.rows r.node) r) T.rows) n) (item_of node_cmp (λ (r : RowMarks). r.node) S.rows n))
   pub regs : IsListing field_cmp (λ (r : RegStep). r.field) G.regs (λ f. option_or (item_of field_cmp (λ (r : RegStep). r.field) (map (λ (r : RegStep). register_behind (item_of field_cmp (λ (q : RegStep). q.field) S.regs r.field) r) T.regs) f) (item_of field_cmp (λ (r : RegStep). r.field) S.regs f))
+
+-- g lists the step from D to E with the nodes of K named, but for which empty cells it names
+abbrev pub ShowsListed : Document → Document → Nodes → Step → Type 0
+ShowsListed D E K g = (G : Step) × ListsStep D E K G × (thin_step g ≡ thin_step G)
