@@ -1,50 +1,48 @@
 -- What the laws of the kinds of fields say of rows and registers that a change lists.
-use Rattle.std.proofs.Common.{◌≡◌, Bool, true, false, List, Result, Ok, Err, refl, sym, ap, ◌∙◌, subst}
+use Rattle.std.proofs.Common.{◌≡◌, Bool, true, false, List, [], ◌∷◌, map, refl, sym, ap, ◌∙◌, subst}
 use Rattle.std.specs.Option.{option_map_or}
-use Rattle.std.specs.Prelude.{IfOk}
 use Rattle.st_ids.specs.declared.names.NodeId.{NodeId}
 use Rattle.st_ids.specs.declared.names.Rev.{Rev}
-use Rattle.st_marks.specs.declared.marks.Mark.{Mark}
 use Rattle.st_marks.specs.declared.marks.RegMark.{RegMark}
-use Rattle.st_marks.specs.declared.places.Slot.{Slot}
+use Rattle.st_marks.specs.declared.marks.RowMarks.{RowMarks}
 use Rattle.st_marks.specs.Embedding.{is_among}
-use Rattle.st_marks.specs.Row.{RowPart, embed_row, merge}
+use Rattle.st_marks.specs.Row.{embed_row, merge, spread}
 use Rattle.st_register.specs.Readings.{as_mark}
 use Rattle.st_register.specs.Register.{RegCanHold, RegFits, RegLeadsOver, RegPart, reg_carried, reg_change_of}
 use Rattle.st_register.specs.declared.values.RegChange.{RegChange}
 use Rattle.st_register.specs.declared.values.RegHeld.{RegHeld}
 use Rattle.st_register.specs.declared.values.RegSwap.{RegSwap}
-use Rattle.st_rows.specs.Changes.{AreOld, IsRowChange, carried_row, placed_by, void_part}
-use Rattle.st_rows.specs.Rows.{IsRowStep}
-use Rattle.st_rows.specs.Sequence.{RowFits, SeqPart, row_change_of}
+use Rattle.st_rows.specs.Cells.{effect_row, void_row}
+use Rattle.st_rows.specs.Changes.{placed_by, void_part}
+use Rattle.st_rows.specs.Sequence.{row_change_of}
+use Rattle.st_rows.proofs.KindLaws.{spread_of}
 use Rattle.st_rows.proofs.PartsThatFit.{change_is, old_placed}
-use Rattle.st_effect.specs.inside.Done.{IsRegisterDone, IsRowDone}
+use Rattle.st_rows.proofs.RowEffects.{effect_row-embed_row, grown_row}
+use Rattle.st_rows.proofs.VoidRows.{void_row-embed_row}
+use Rattle.st_effect.specs.inside.Done.{AreRowsDone, IsRegisterDone, IsRowDone, row_done}
 
 -- ## Rows
 
-row_change : (p : SeqPart) (c : List Slot) (marks : List Mark) → RowFits p c → marks ≡ merge (embed_row p.part c) → IsRowChange p.part c marks
-row_change p c marks w says = subst (IsRowChange p.part c) (sym says) (change_is p c (row_change_of p c) w refl)
+-- what is done with a row says what a commit does to it, void or not
+pub row_law : (void : Bool) (new : List NodeId) (r : RowMarks) → IsRowDone void new r (row_done void new r)
+row_law false new r = λ p c own listed w says. record {
+  grows = grown_row p.part c;
+  says = ap merge (ap effect_row (spread_of r.marks (embed_row p.part c) says) ∙ effect_row-embed_row p.part c (change_is p c (row_change_of p c) w refl).mentions);
+}
+row_law true new r = λ p c own listed w says.
+    let placed = placed_by p.in_new p.new in
+    let same : placed_by (is_among new r.node) new ≡ placed = λ i. placed_by (sym own i) (sym listed i) in
+    record {
+      grows = grown_row (void_part placed p.part) c;
+      says = ap merge ((λ i. void_row (same i) (spread r.marks)) ∙ ap (void_row placed) (spread_of r.marks (embed_row p.part c) says) ∙ void_row-embed_row placed p.part c (old_placed p.in_new p.new c w.old));
+    }
 
--- what the marks of a row say where the change is carried out
-abbrev pub IsWholeLaw : {E : Type 0} → List Mark → Result (List Mark) E → Type 0
-IsWholeLaw marks r = (p : RowPart) (c : List Slot) → IsRowChange p c marks → IfOk r (λ s. IsRowStep p.mentioned c (carried_row p c) s)
-
-pub whole_law : {E : Type 0} (node : NodeId) (new : List NodeId) (marks : List Mark) (r : Result (List Mark) E) → IsWholeLaw marks r
-    → IfOk r (λ t. IsRowDone false new (record { node = node; marks = marks }) (record { node = node; marks = t }))
-whole_law node new marks (Err e) law = tt
-whole_law node new marks (Ok t) law = λ p c own listed w says. law p.part c (row_change p c marks w says)
-
--- and where it is void
-abbrev pub IsVoidLaw : {E : Type 0} → Bool → List NodeId → List Mark → Result (List Mark) E → Type 0
-IsVoidLaw in_new new marks r = (p : RowPart) (c : List Slot) → IsRowChange p c marks → AreOld (placed_by in_new new) c → IfOk r (λ s. IsRowStep p.mentioned c (carried_row (void_part (placed_by in_new new) p) c) s)
-
-pub void_law : {E : Type 0} (node : NodeId) (in_new : Bool) (new : List NodeId) (marks : List Mark) (r : Result (List Mark) E) → in_new ≡ is_among new node → IsVoidLaw in_new new marks r
-    → IfOk r (λ t. IsRowDone true new (record { node = node; marks = marks }) (record { node = node; marks = t }))
-void_law node in_new new marks (Err e) h law = tt
-void_law node in_new new marks (Ok t) h law = λ p c own listed w says.
-    let placed : placed_by p.in_new p.new ≡ placed_by in_new new = λ i. placed_by ((own ∙ sym h) i) (listed i) in
-    let old : AreOld (placed_by in_new new) c = subst (λ q. AreOld q c) placed (old_placed p.in_new p.new c w.old) in
-    subst (λ q. IsRowStep p.part.mentioned c (carried_row (void_part q p.part) c) t) (sym placed) (law p.part c (row_change p c marks w says) old)
+pub rows_law : (void : Bool) (new : List NodeId) (rows done : List RowMarks) → done ≡ map (row_done void new) rows → AreRowsDone void new rows done
+rows_law void new rows done e = subst (AreRowsDone void new rows) (sym e) (each rows)
+  where
+    each : (rows : List RowMarks) → AreRowsDone void new rows (map (row_done void new) rows)
+    each [] = tt
+    each (r ∷ rows) = (refl, row_law void new r, each rows)
 
 -- ## Registers
 

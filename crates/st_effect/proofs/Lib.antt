@@ -8,4 +8,5 @@ pub mod RowsListed
 pub mod RegistersListed
 pub mod LooseListed
 pub mod VoidIntents
+pub mod ShownChanges
 pub mod StepListed

@@ -29,6 +29,7 @@ use Rattle.st_marks.specs.Verdict.{IsBaseInEffect, IsVerdict, carried_document}
 use Rattle.st_marks.proofs.Members.{first-has}
 use Rattle.st_marks.proofs.OneVerdict.{carried_extends}
 use Rattle.st_marks.proofs.Shared.{not_made}
+use Rattle.st_mention_laws.specs.Shown.{thin}
 use Rattle.st_register.specs.Register.{reg_carried, reg_part_of}
 use Rattle.st_register.proofs.Documents.{void_is as register_void, whole_is as register_whole}
 use Rattle.st_rows.specs.Sequence.{ListsNew, row_carried, row_part_of}
@@ -38,12 +39,14 @@ use Rattle.st_trim.specs.Covers.{CoversStep}
 use Rattle.st_trim.specs.Evicted.{in_cleared}
 use Rattle.st_trim.specs.Trimmed.{ListsStep}
 use Rattle.st_trim.proofs.Effects.{effect_covers}
-use Rattle.st_effect.specs.inside.Done.{IsRegisterDone, IsRowDone, ListsDone, is_void, schema_done}
+use Rattle.st_effect.specs.inside.Done.{IsRegisterDone, IsRowDone, ListsDone, ShowsListed, is_void, schema_done}
+use Rattle.st_effect.proofs.FieldLaws.{rows_law}
 use Rattle.st_effect.proofs.LooseListed.{MovesLoose, loose_listed, whole_moves}
 use Rattle.st_effect.proofs.ItemPairs.{rising_same}
 use Rattle.st_effect.proofs.NamesListed.{mentioned_there}
 use Rattle.st_effect.proofs.RegistersListed.{register_listed}
 use Rattle.st_effect.proofs.RowsListed.{row_listed}
+use Rattle.st_effect.proofs.ShownChanges.{shown_done}
 use Rattle.st_effect.proofs.VoidIntents.{void_covers, void_nodes, void_place, void_schemas}
 
 -- ## New nodes
@@ -103,9 +106,9 @@ module _ (D E : Document) (N : Intent) (C : Change) (v : Bool) (x : IsSoundInFor
           at_each = λ n. emb.new.at_each n ∙ node_at D N f n ∙ ap (gained_node n (D.nodes n)) (sym (a.nodes n));
         });
         grows = λ n. contents_grow D E n ext;
-        rows_rise = rising_same node_cmp (λ (r : RowMarks). r.node) (λ (t : RowMarks). t.node) (IsRowDone v l.names) C.rows G.rows l.rows ∙ emb.rows.rising;
+        rows_rise = rising_same node_cmp (λ (r : RowMarks). r.node) (λ (t : RowMarks). t.node) (IsRowDone v l.names) C.rows G.rows (rows_law v l.names C.rows G.rows l.rows) ∙ emb.rows.rising;
         regs_rise = rising_same field_cmp (λ (r : RegMark). r.field) (λ (t : RegStep). t.field) (IsRegisterDone v C.rev l.names) C.regs G.regs l.regs ∙ emb.regs.rising;
-        rows = λ n. row_listed D E N C v x f emb ext l.names listed (a.rows l.names listed) n G.rows l.rows;
+        rows = λ n. row_listed D E N C v x f emb ext l.names listed (a.rows l.names listed) n G.rows (rows_law v l.names C.rows G.rows l.rows);
         regs = λ k. register_listed D E N C v x f emb l.names listed k (a.regs k) G.regs l.regs;
         loose = loose_listed D E N C v emb a.loose G.loose l.loose;
       }
@@ -148,3 +151,11 @@ pub listed_by : {F : Type 0} (D : Document) (N : Intent) (C : Change) (w : Verdi
     → IsSoundInForm D → Fits D N → HasShortRows (full D N) → (emb : IsEmbedding D N C) → IsVerdict D N w → IfOk r (λ g. ListsStep D (carried_document w D N) (either emb.mentioned (in_cleared D N)) g)
 listed_by D N C w v (Err e) q l s x f short emb h = tt
 listed_by D N C w v (Ok g) q l s x f short emb h = lists_by_verdict D N C x f emb w h short g (subst (λ b. ListsDone b C g) q l) (subst (λ b. g.schema ≡ schema_done b C) q s)
+
+-- and of a change that is C but for which empty cells it names
+pub shown_by : {F : Type 0} (D : Document) (N : Intent) (X C : Change) (w : Verdict) (v : Bool) (r : Result Step F) → thin X ≡ thin C → v ≡ is_void w → IfOk r (λ g. ListsDone v X g) → IfOk r (λ g. g.schema ≡ schema_done v X)
+    → IsSoundInForm D → Fits D N → HasShortRows (full D N) → (emb : IsEmbedding D N C) → IsVerdict D N w → IfOk r (ShowsListed D (carried_document w D N) (either emb.mentioned (in_cleared D N)))
+shown_by D N X C w v (Err e) same q l s x f short emb h = tt
+shown_by D N X C w v (Ok g) same q l s x f short emb h =
+    let t = shown_done (is_void w) X C g same (subst (λ b. ListsDone b X g) q l) (subst (λ b. g.schema ≡ schema_done b X) q s) in
+    (t.0, lists_by_verdict D N C x f emb w h short t.0 t.1 t.2, t.3)

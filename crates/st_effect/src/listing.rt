@@ -1,9 +1,9 @@
 //! What a change does, with all that it names.
-ghost use Rattle.std.specs.Prelude.{◌≡◌, IfOk, OnOk};
+ghost use Rattle.std.specs.Prelude.{◌≡◌, map, IfOk, OnOk};
 ghost use Rattle.st_ids.specs.Listing.{IsRising};
 ghost use Rattle.st_ids.specs.Order.{node_cmp};
 ghost use Rattle.st_effect.specs.Short.{HasShortRowsListed};
-ghost use Rattle.st_effect.specs.inside.Done.{AreRegistersDone, AreRowsDone, ListsDone, schema_done as done};
+ghost use Rattle.st_effect.specs.inside.Done.{AreRegistersDone, ListsDone, row_done, schema_done as done};
 
 use crate::loose::all_loose_done;
 use crate::names::new_names;
@@ -24,7 +24,7 @@ fn fill_fields(
 ) -> Result<(), AllocError>
     requires rising { IsRising node_cmp (λ n. n) new.now }
     requires short { HasShortRowsListed change.now }
-    ensures rows { OnOk result (AreRowsDone void new.now change.now.rows step.exit.now.rows) }
+    ensures rows { OnOk result (step.exit.now.rows ≡ map (row_done void new.now) change.now.rows) }
     ensures regs { OnOk result (AreRegistersDone void change.now.rev new.now change.now.regs step.exit.now.regs) }
     ensures schema { OnOk result (step.exit.now.schema ≡ step.entry.now.schema) }
 {

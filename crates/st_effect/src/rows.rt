@@ -1,11 +1,13 @@
 //! The rows of a change, carried out or void.
-ghost use Rattle.std.specs.Prelude.{◌≡◌, ◌<◌, ◌^◌, length, IfOk};
+ghost use Rattle.std.specs.Prelude.{◌≡◌, ◌<◌, ◌^◌, length, map, IfOk};
 ghost use Rattle.std.specs.List.{AllByRecursion};
 ghost use Rattle.st_ids.specs.Listing.{IsRising};
 ghost use Rattle.st_ids.specs.Order.{node_cmp};
 ghost use Rattle.st_marks.specs.declared.marks.RowMarks.{RowMarks as Row};
-ghost use Rattle.st_marks.specs.Row.{spread};
-ghost use Rattle.st_effect.specs.inside.Done.{AreRowsDone, IsRowDone};
+ghost use Rattle.st_marks.specs.Embedding.{is_among as among};
+ghost use Rattle.st_marks.specs.Row.{merge, spread};
+ghost use Rattle.st_rows.specs.Changes.{placed_by};
+ghost use Rattle.st_effect.specs.inside.Done.{cells_done, row_done as done_with};
 
 use crate::names::is_among;
 use st_ids::{List, NodeId};
@@ -23,7 +25,7 @@ fn marks_done(
 ) -> Result<List<Mark>, AllocError>
     requires rising { IsRising node_cmp (λ n. n) new.now }
     requires short { length (spread marks.now) < 2 ^ 32 }
-    ensures { IfOk result (λ t. IsRowDone void new.now (record { node = node; marks = marks.now }) (record { node = node; marks = t })) }
+    ensures { IfOk result (λ t. t ≡ merge (cells_done void (placed_by (among new.now node) new.now) (spread marks.now))) }
 {
     if void {
         let in_new = is_among(new, node);
@@ -42,8 +44,7 @@ fn row_done(
 ) -> Result<RowMarks, AllocError>
     requires rising { IsRising node_cmp (λ n. n) new.now }
     requires short { length (spread row.now.marks) < 2 ^ 32 }
-    ensures node { IfOk result (λ t. t.node ≡ row.now.node) }
-    ensures done { IfOk result (λ t. IsRowDone void new.now row.now t) }
+    ensures { IfOk result (λ t. t ≡ done_with void new.now row.now) }
 {
     let marks = marks_done(alloc, row.node, &row.marks, void, new)?;
     Ok(RowMarks {
@@ -61,7 +62,7 @@ pub fn rows_done(
 ) -> Result<List<RowMarks>, AllocError>
     requires rising { IsRising node_cmp (λ n. n) new.now }
     requires short { AllByRecursion (λ (r : Row). length (spread r.marks) < 2 ^ 32) rows.now }
-    ensures { IfOk result (λ done. AreRowsDone void new.now rows.now done) }
+    ensures { IfOk result (λ done. done ≡ map (done_with void new.now) rows.now) }
 {
     let mut done = List::new(alloc);
     for row in rows {

@@ -4,6 +4,7 @@ use Rattle.st_ids.specs.Listing.{IsRising}
 use Rattle.st_ids.specs.Order.{node_cmp}
 use Rattle.st_ids.specs.declared.names.NodeId.{NodeId}
 use Rattle.st_ids.specs.declared.names.Rev.{Rev}
+use Rattle.st_kind.specs.Named.{Nodes}
 use Rattle.st_marks.specs.declared.changes.Change.{Change}
 use Rattle.st_marks.specs.declared.marks.How.TheVariants.{Stay, Leave}
 use Rattle.st_marks.specs.declared.marks.Loose.{Loose}
@@ -14,15 +15,20 @@ use Rattle.st_marks.specs.declared.places.Slot.{Slot}
 use Rattle.st_marks.specs.declared.schemas.SchemaStep.{SchemaStep}
 use Rattle.st_marks.specs.declared.steps.Step.{Step}
 use Rattle.st_marks.specs.declared.verdicts.Verdict.{Verdict}
+use Rattle.st_marks.specs.Document.{Document}
 use Rattle.st_marks.specs.Embedding.{is_among}
 use Rattle.st_marks.specs.How.{is_leave}
 use Rattle.st_marks.specs.Listings.{nodes_new}
-use Rattle.st_marks.specs.Row.{embed_row, merge}
+use Rattle.st_marks.specs.Row.{CellMark, embed_row, merge, spread}
+use Rattle.st_mention_laws.specs.Shown.{thin_step}
 use Rattle.st_register.specs.Readings.{as_mark}
 use Rattle.st_register.specs.Register.{RegCanHold, RegFits, RegPart, reg_carried, reg_change_of}
 use Rattle.st_register.specs.declared.values.RegHeld.{RegHeld}
+use Rattle.st_rows.specs.Cells.{effect_row, void_row}
+use Rattle.st_rows.specs.Changes.{placed_by}
 use Rattle.st_rows.specs.Rows.{IsRowStep}
 use Rattle.st_rows.specs.Sequence.{RowFits, SeqPart, row_carried}
+use Rattle.st_trim.specs.Trimmed.{ListsStep}
 use Rattle.st_effect.specs.inside.Listed.{AreListedAs}
 
 -- whether a change with this verdict is void
@@ -42,6 +48,15 @@ IsRowDone void new r t = (p : SeqPart) (c : List Slot) → p.in_new ≡ is_among
 -- that holds of each row
 abbrev pub AreRowsDone : Bool → List NodeId → List RowMarks → List RowMarks → Type 0
 AreRowsDone void new rs ts = AreListedAs (λ (r : RowMarks). r.node) (λ (t : RowMarks). t.node) (IsRowDone void new) rs ts
+
+-- what is done with the cells of a row, where a void change places these nodes
+abbrev pub cells_done : Bool → Nodes → List CellMark → List CellMark
+cells_done true placed cells = void_row placed cells
+cells_done false placed cells = effect_row cells
+
+-- the step's row, by the change's: cell by cell
+abbrev pub row_done : Bool → List NodeId → RowMarks → RowMarks
+row_done void new r = record { node = r.node; marks = merge (cells_done void (placed_by (is_among new r.node) new) (spread r.marks)) }
 
 -- ## Registers
 
@@ -76,6 +91,10 @@ pub record ListsDone (void : Bool) (C : Change) (G : Step) : Type 0 where
   pub names : List NodeId
   pub rising : IsRising node_cmp (λ (n : NodeId). n) names
   pub each : (n : NodeId) → is_among names n ≡ is_among (nodes_new C.new) n
-  pub rows : AreRowsDone void names C.rows G.rows
+  pub rows : G.rows ≡ map (row_done void names) C.rows
   pub regs : AreRegistersDone void C.rev names C.regs G.regs
   pub loose : G.loose ≡ map (loose_done void) C.loose
+
+-- G lists the step from D to E with the nodes of K named, but for which empty cells it names
+abbrev pub ShowsListed : Document → Document → Nodes → Step → Type 0
+ShowsListed D E K G = (T : Step) × ListsStep D E K T × (thin_step G ≡ thin_step T)

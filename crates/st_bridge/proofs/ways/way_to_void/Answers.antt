@@ -11,5 +11,5 @@ returns-then-not-has_short_rows c = λ D N v x f short plain emb is. absurd (tru
 
 pub returns : goal.returns
 returns c = λ D N v x f short plain emb is.
-    let w = c.in_ok-done.ensures D N x f short emb in
+    let w = c.in_ok-done.ensures.exact D N x f short emb in
     subst (λ z. IfOk c.way_back_of.result (λ o. LeadsToVoid D N z o)) (one_verdict D N c.in_ok-done.done.verdict v w.0 is) (c.way_back_of.ensures D N x f short plain w.0 w.1)

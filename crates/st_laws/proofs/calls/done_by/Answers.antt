@@ -8,7 +8,7 @@ use Rattle.st_laws.proofs.calls.done_by.Goals as goal
 
 pub returns-in_ok-step : goal.returns-in_ok-step
 returns-in_ok-step c = λ D N v x f short emb is.
-    let r = c.in_ok-done.ensures D N x f short emb in
+    let r = c.in_ok-done.ensures.exact D N x f short emb in
     subst (IsStep D (carried_document v D N)) (sym c.in_ok-step.ensures)
     (subst (λ (w : Verdict). IsStep D (carried_document w D N) c.in_ok-done.done.step) (one_verdict D N c.in_ok-done.done.verdict v r.0 is) r.1)
 

@@ -16,7 +16,7 @@ returns c =
     let d = c.changes_that_obey_are_normal.ensures c.args.change.now c.requires.0 in
     let is : IsEffect c.args.change.now done.step done.verdict = record {
       there = (d.0, d.1, record { sound = d.2; fits = d.3; short = d.4; change = d.5 });
-      each = λ D N t. c.in_ok-done.ensures D N t.sound t.fits t.short t.change;
+      each = λ D N t. c.in_ok-done.ensures.exact D N t.sound t.fits t.short t.change;
     } in
     IfOk-weaker c.tell_effect.result _ _
     (λ r h. told_to (Effect c.args.change.now) (line_of (verdict_answer (codes "effect") done.step done.verdict)) r
