@@ -19,6 +19,7 @@ pub mod WaysBack
 pub mod NodesFound
 pub mod ToldTogether
 pub mod ShortRows
+pub mod ShownBack
 pub mod ShownInTurn
 pub mod ShortSteps
 pub mod ToldBack

@@ -9,10 +9,12 @@ ghost use Rattle.st_marks.specs.Back.{retreat};
 ghost use Rattle.st_marks.specs.Document.{Document};
 ghost use Rattle.st_marks.specs.Extends.{IsExtendedBy};
 ghost use Rattle.st_marks.specs.Step.{IsStep};
+ghost use Rattle.st_mention_laws.specs.Shown.{ShowsStep};
 ghost use Rattle.st_trim.specs.Trimmed.{ListsStep};
 ghost use Rattle.st_steps.specs.Short.{HasShortRowsListed};
 ghost use Rattle.st_steps.specs.WayBack.{TellsBack, named_back_of, schema_back as turned};
 ghost use Rattle.st_steps.specs.inside.Back.{ToldBack, lists_node, told_of};
+ghost use Rattle.st_steps.specs.inside.Told.{ShowsListed};
 
 use crate::listing::empty_step;
 use crate::loose::Tables;
@@ -47,8 +49,8 @@ fn schema_back(alloc: Global, schema: &Option<SchemaStep>) -> Result<Option<Sche
 
 // What a step tells of nodes: whom it finds somewhere, whom it makes, and where it leaves them.
 fn tables_back(alloc: Global, step: &Step) -> Result<Tables, AllocError>
-    ensures { (D E : Document) → IsExtendedBy D E → (s : IsStep D E step.now) → (listed : Nodes) → ((n : Node) → listed n ≡ lists_node step.now n)
-        → IfOk result (λ r. TellsBack D E s.mentioned (contains node_cmp r.new) (contains node_cmp r.stood) (told_of listed (get node_cmp r.spots))) }
+    ensures { (D E : Document) → IsExtendedBy D E → (s : ShowsStep D E step.now) → (listed : Nodes) → ((n : Node) → listed n ≡ lists_node step.now n)
+        → IfOk result (λ r. TellsBack D E s.1.mentioned (contains node_cmp r.new) (contains node_cmp r.stood) (told_of listed (get node_cmp r.spots))) }
 {
     let stood = nodes_found(alloc, step)?;
     let new = new_names(alloc, step.new.as_slice())?;
@@ -94,8 +96,10 @@ fn told_back(
 // What a step says, turned round. It may name more than the step back.
 fn listing_back(alloc: Global, step: &Step) -> Result<Step, AllocError>
     requires { HasShortRowsListed step.now }
-    ensures { (D E : Document) → IsExtendedBy D E → (s : IsStep D E step.now)
+    ensures exact { (D E : Document) → IsExtendedBy D E → (s : IsStep D E step.now)
         → IfOk result (λ g. ListsStep E (retreat D E) (named_back_of D E s.mentioned) g) }
+    ensures shown { (D E : Document) → IsExtendedBy D E → (s : ShowsStep D E step.now)
+        → IfOk result (ShowsListed E (retreat D E) (named_back_of D E s.1.mentioned)) }
 {
     let tables = tables_back(alloc, step)?;
     let nodes = nodes_listed(alloc, step)?;
@@ -103,10 +107,12 @@ fn listing_back(alloc: Global, step: &Step) -> Result<Step, AllocError>
 }
 
 /// The way back over a step: from the later document to the retreat, which has all that the later one has, with the nodes of the
-/// earlier one where they were. Takes O(n log n) for n marks and names, whatever a Skip counts.
+/// earlier one where they were. Which empty cells that stay empty the step names isn't read: of one that counts some of them the
+/// way back may count these too. Takes O(n log n) for n marks and names, whatever a Skip counts.
 pub fn invert(alloc: Global, step: &Step) -> Result<Step, AllocError>
     requires { HasShortRowsListed step.now }
-    ensures { (D E : Document) → IsExtendedBy D E → IsStep D E step.now → IfOk result (IsStep E (retreat D E)) }
+    ensures exact { (D E : Document) → IsExtendedBy D E → IsStep D E step.now → IfOk result (IsStep E (retreat D E)) }
+    ensures shown { (D E : Document) → IsExtendedBy D E → ShowsStep D E step.now → IfOk result (ShowsStep E (retreat D E)) }
 {
     let listing = listing_back(alloc, step)?;
     trim_step(alloc, listing)

@@ -23,7 +23,7 @@ returns-clause-reverted c = λ D E B x s b has.
     let holds : IsTrue (not c.takes_out.result) ↔ IsBaseInEffect E B = subst (λ z. IsTrue (not z) ↔ IsBaseInEffect E B) (sym c.takes_out.ensures)
     (base_is D E B S.schema c.args.under x.before.in_effect s.schema b.nothing_new.3 b.rev_and_under.1 has) in
     IfOk-along c.change_of.result (λ (k : Change). k ≡ read_back new back c.args.rev c.args.under (not c.takes_out.result)) (IsEmbedding E B)
-    (λ k e. subst (IsEmbedding E B) (sym e) (reverts D E x c.args.rev c.args.under B b back (c.in_ok-back.ensures D E x s) new (λ n. names n ∙ new_exactly D E S x s n) (not c.takes_out.result) holds)) c.change_of.ensures
+    (λ k e. subst (IsEmbedding E B) (sym e) (reverts D E x c.args.rev c.args.under B b back (c.in_ok-back.ensures.exact D E x s) new (λ n. names n ∙ new_exactly D E S x s n) (not c.takes_out.result) holds)) c.change_of.ensures
 
 pub returns-clause-under_any : goal.returns-clause-under_any
 returns-clause-under_any c = λ D E B x s b.
@@ -33,7 +33,7 @@ returns-clause-under_any c = λ D E B x s b.
     let names : (n : NodeId) → new n ≡ is_among (nodes_new S.new) n = λ n. c.in_ok-new.ensures n ∙ ap (λ l. is_among (nodes_new l) n) c.as_slice.ensures in
     IfOk-along c.change_of.result (λ (k : Change). k ≡ read_back new back c.args.rev c.args.under (not c.takes_out.result)) (λ (k : Change). (z : Bool) → IsTrue z ↔ IsBaseInEffect E B → IsEmbedding E B (record k { base = z }))
     (λ k e z holds. subst (λ (q : Change). IsEmbedding E B (record q { base = z })) (sym e)
-    (reverts D E x c.args.rev c.args.under B b back (c.in_ok-back.ensures D E x s) new (λ n. names n ∙ new_exactly D E S x s n) z holds)) c.change_of.ensures
+    (reverts D E x c.args.rev c.args.under B b back (c.in_ok-back.ensures.exact D E x s) new (λ n. names n ∙ new_exactly D E S x s n) z holds)) c.change_of.ensures
 
 pub returns-clause-base : goal.returns-clause-base
 returns-clause-base c =

@@ -13,6 +13,6 @@ invert-requires c = step_few c.args.step.now c.requires.1
 pub returns : goal.returns
 returns c =
     let back = c.in_ok-back.back in
-    let is : IsInverted c.args.step.now back = record { there = c.steps_that_obey_are_normal.ensures c.args.step.now c.requires.0; each = c.in_ok-back.ensures } in
+    let is : IsInverted c.args.step.now back = record { there = c.steps_that_obey_are_normal.ensures c.args.step.now c.requires.0; each = c.in_ok-back.ensures.exact } in
     IfOk-weaker c.tell_step.result _ _
     (λ r h. told_to (Invert c.args.step.now) (line_of (step_answer (codes "invert") back)) r (back, is, refl) h) c.tell_step.ensures
