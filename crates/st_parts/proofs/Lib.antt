@@ -9,7 +9,9 @@ mod NamesOfParts
 pub mod PartsListed
 mod MappedItems
 mod PartsTold
+mod ShownParts
 mod TablesTell
 mod AboveNames
 mod ShortListings
+mod ThinListings
 pub mod MentionsListed

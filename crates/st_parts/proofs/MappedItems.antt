@@ -1,11 +1,12 @@
 -- Look-ups in lists that are mapped, or of which some items are left out.
-use Rattle.std.proofs.Common.{◌≡◌, Bool, true, false, List, [], ◌∷◌, map, Option, Some, None, option_and_then, option_map, cond, refl, sym, ap, ◌∙◌}
+use Rattle.std.proofs.Common.{◌≡◌, Bool, true, false, ◌&&◌, List, [], ◌∷◌, map, Option, Some, None, option_and_then, option_map, cond, refl, sym, ap, ◌∙◌, inl, inr}
 use Rattle.std.proofs.lemmas.Map.Lookups.{CmpEqualImpliesEq}
 use Rattle.std.specs.Cmp.{IsTotalOrder}
+use Rattle.std.specs.FinMap.Entries.{below_all, is_sorted}
 use Rattle.std.specs.List.{filter_map}
-use Rattle.std.specs.Ordering.{is_eq}
+use Rattle.std.specs.Ordering.{is_eq, is_lt}
 use Rattle.std.specs.declared.cmp.Ordering.{Ordering}
-use Rattle.st_ids.specs.Listing.{item_of}
+use Rattle.st_ids.specs.Listing.{Has, IsListing, IsRising, item_of, key_pairs}
 use Rattle.st_ids.proofs.Listings.{item_of-has}
 use Rattle.st_ids.proofs.Orders.{is_eq_equal}
 
@@ -18,6 +19,22 @@ item_of-map R key f keeps (x ∷ xs) k = (λ i. cond (is_eq (R k (keeps x i))) (
     go : (b : Bool) → cond b (Some (f x)) (option_map f (item_of R key xs k)) ≡ option_map f (cond b (Some x) (item_of R key xs k))
     go true = refl
     go false = refl
+
+pub map-same : {A B : Type 0} (f g : A → B) (xs : List A) → ((x : A) → Has xs x → f x ≡ g x) → map f xs ≡ map g xs
+map-same f g [] h = refl
+map-same f g (x ∷ xs) h = λ i. h x (inl refl) i ∷ map-same f g xs (λ y w. h y (inr w)) i
+
+module _ {K A : Type 0} (R : K → K → Ordering) (key : A → K) (f : A → A) (keeps : (x : A) → key (f x) ≡ key x) where
+  below-map : (xs : List A) (k : K) → below_all R k (key_pairs key (map f xs)) ≡ below_all R k (key_pairs key xs)
+  below-map [] k = refl
+  below-map (x ∷ xs) k = λ i. is_lt (R k (keeps x i)) && below-map xs k i
+
+  rising-map : (xs : List A) → is_sorted R (key_pairs key (map f xs)) ≡ is_sorted R (key_pairs key xs)
+  rising-map [] = refl
+  rising-map (x ∷ xs) = λ i. (ap (λ j. below_all R j (key_pairs key (map f xs))) (keeps x) ∙ below-map xs (key x)) i && rising-map xs i
+
+  pub listing-map : (xs : List A) → IsRising R key xs → IsListing R key (map f xs) (λ k. option_map f (item_of R key xs k))
+  listing-map xs rising = record { rising = rising-map xs ∙ rising; at_each = λ k. item_of-map R key f keeps xs k }
 
 -- ## A list of which some names are left out
 

@@ -72,12 +72,12 @@ lists_new_of N xs e = record {
 -- ## Over documents
 
 -- a node is mentioned, if each put of it says so and there is one
-pub some_put : (o : Option To) (b : Bool) → ((t : To) → o ≡ Some t → b ≡ true) → o ≢ None → b ≡ true
+some_put : (o : Option To) (b : Bool) → ((t : To) → o ≡ Some t → b ≡ true) → o ≢ None → b ≡ true
 some_put None b f h = absurd (h refl)
 some_put (Some t) b f h = f t refl
 
 -- who stands in a row is there
-pub standing_known : (D : Document) → IsSoundInForm D → (n y : NodeId) → StandsIn y (content D n) → IsSome (D.nodes y)
+standing_known : (D : Document) → IsSoundInForm D → (n y : NodeId) → StandsIn y (content D n) → IsSome (D.nodes y)
 standing_known D x n y h =
     let s = at (content D n) h in
     let o = is_slot D n s.0 s.1 in

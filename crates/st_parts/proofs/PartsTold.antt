@@ -1,5 +1,5 @@
 -- Two parts of one commit, each name told in two listings as one: what both say together.
-use Rattle.std.proofs.Common.{◌≡◌, zero, Bool, true, false, ◌||◌, List, map, Option, Some, None, option_and_then, option_map, is_some, cond, refl, sym, ap, ◌∙◌, subst}
+use Rattle.std.proofs.Common.{◌≡◌, Bool, true, false, ◌||◌, List, map, Option, Some, None, option_and_then, option_map, cond, refl, sym, ap, ◌∙◌, subst}
 use Rattle.std.specs.List.{filter_map}
 use Rattle.std.specs.Option.{option_or}
 use Rattle.st_ids.specs.Listing.{item_of}
@@ -10,32 +10,17 @@ use Rattle.st_ids.specs.declared.names.FieldId.{FieldId}
 use Rattle.st_ids.specs.declared.names.NodeId.{NodeId}
 use Rattle.st_kind.specs.Named.{Nodes}
 use Rattle.st_marks.specs.declared.changes.Change.{Change}
-use Rattle.st_marks.specs.declared.intents.Intent.{Intent}
 use Rattle.st_marks.specs.declared.intents.To.{To}
 use Rattle.st_marks.specs.declared.marks.Loose.{Loose}
 use Rattle.st_marks.specs.declared.marks.RegMark.{RegMark}
 use Rattle.st_marks.specs.declared.marks.RowMarks.{RowMarks}
-use Rattle.st_marks.specs.CarryOut.{full}
-use Rattle.st_marks.specs.Document.{Document, content}
-use Rattle.st_marks.specs.Embedding.{IsEmbedding, row_part}
-use Rattle.st_marks.specs.Extends.{IsExtendedBy}
-use Rattle.st_marks.specs.Intent.{put_of}
-use Rattle.st_marks.specs.Join.{AreParts}
-use Rattle.st_marks.specs.Listings.{cells_after, cells_before, nodes_new}
-use Rattle.st_marks.specs.Row.{embed_row, how, merge, spread}
+use Rattle.st_marks.specs.Row.{how, merge, spread}
 use Rattle.st_rows.specs.Cells.{join_row}
-use Rattle.st_rows.specs.Changes.{carried_row}
-use Rattle.st_rows.specs.Differences.{first_difference}
-use Rattle.st_rows.proofs.DocumentsAfter.{whole_is}
-use Rattle.st_rows.proofs.ViewsOfRows.{DescribeAll, change_finds, change_leaves, no_difference}
-use Rattle.st_puts.proofs.OverDocuments.{row-look}
 use Rattle.st_parts.specs.Joined.{row_joined}
 use Rattle.st_part_listings.specs.Together.{if_it_goes, loose_before, loose_behind, mark_joined, put_there, register_behind, unless_new}
 use Rattle.st_parts.specs.JoinedParts.{IsOfParts, loose_joined, need_joined, register_joined}
 use Rattle.st_parts.specs.inside.OfParts.{ToldOfParts, row_behind, row_of_both}
 use Rattle.st_parts.proofs.MappedItems.{item_of-left, item_of-map}
-use Rattle.st_parts.proofs.NamesOfParts.{put_names}
-use Rattle.st_parts.proofs.PartsListed.{some_put, standing_known}
 
 abbrev row_at : List RowMarks → NodeId → Option RowMarks
 row_at = item_of node_cmp (λ (r : RowMarks). r.node)
@@ -57,8 +42,8 @@ register_keeps : (goes : NodeId → Option To) (o : Option RegMark) (t : RegMark
 register_keeps goes None t = refl
 register_keeps goes (Some s) t = refl
 
-row_together : (n : NodeId) (s t : RowMarks) → t.node ≡ n → first_difference (cells_after (spread s.marks)) (cells_before (spread t.marks)) ≡ None → row_of_both t.node s.marks t.marks ≡ record { node = n; marks = merge (join_row (spread s.marks) (spread t.marks)) }
-row_together n s t same none = λ i. record { node = same i; marks = cond (is_some (none i)) s.marks (merge (join_row (spread s.marks) (spread t.marks))) }
+row_together : (n : NodeId) (s t : RowMarks) → t.node ≡ n → row_of_both t.node s.marks t.marks ≡ record { node = n; marks = merge (join_row (spread s.marks) (spread t.marks)) }
+row_together n s t same = λ i. record { node = same i; marks = merge (join_row (spread s.marks) (spread t.marks)) }
 
 -- ## Registers
 
@@ -137,25 +122,7 @@ need_told new cs xs n = ap (option_or (node_at cs n)) (item_of-left node_cmp nod
 
 -- ## All of it
 
-module _ (D : Document) (N M : Intent) (C X : Change) (x : IsExtendedBy D (full D N)) (p : AreParts D N M) (first : IsEmbedding D N C) (next : IsEmbedding (full D N) M X) where
-  abbrev E : Document
-  E = full D N
-
-  -- what the first leaves of a row is what the second finds
-  no_difference_in : (n : NodeId) (r u : RowMarks) → row_at C.rows n ≡ Some r → row_at X.rows n ≡ Some u → first_difference (cells_after (spread r.marks)) (cells_before (spread u.marks)) ≡ None
-  no_difference_in n r u e g =
-      let i = item_of-has node_cmp node_cmp_total node_cmp_exact (λ (r : RowMarks). r.node) C.rows n r e in
-      let j = item_of-has node_cmp node_cmp_total node_cmp_exact (λ (r : RowMarks). r.node) X.rows n u g in
-      let a = row_part first.mentioned N n in
-      let b = row_part next.mentioned M n in
-      let before : spread r.marks ≡ embed_row a (content D n) = (row-look D N C x.before p.first_fits first r i.0).0 ∙ ap (λ k. embed_row (row_part first.mentioned N k) (content D k)) i.1 in
-      let after : spread u.marks ≡ embed_row b (content E n) = (row-look E M X x.after p.then_fits next u j.0).0 ∙ ap (λ k. embed_row (row_part next.mentioned M k) (content E k)) j.1 in
-      let carried : content E n ≡ carried_row a (content D n) = whole_is D N n x.before p.first_fits first.mentioned (nodes_new C.new) in
-      (λ i. first_difference (cells_after (before i)) (cells_before (after i)))
-      ∙ no_difference (carried_row a (content D n)) (cells_after (embed_row a (content D n))) (cells_before (embed_row b (content E n)))
-      (change_leaves a (content D n) (λ y h q. some_put (put_of N y) (first.mentioned y) (λ t k. (first.which y).1 (y, put_names D N y t k, standing_known D x.before n y h, zero, refl)) q))
-      (subst (λ c. DescribeAll c (cells_before (embed_row b (content E n)))) carried (change_finds b (content E n)))
-
+module _ (C X : Change) where
   row_told : (n : NodeId) → option_or (row_at (map (λ (r : RowMarks). row_behind (row_at C.rows r.node) r) X.rows) n) (row_at C.rows n) ≡ row_joined n (row_at C.rows n) (row_at X.rows n)
   row_told n =
       ap (λ o. option_or o (row_at C.rows n)) (item_of-map node_cmp (λ (r : RowMarks). r.node) (λ (r : RowMarks). row_behind (row_at C.rows r.node) r) (λ r. row_keeps (row_at C.rows r.node) r) X.rows n)
@@ -169,7 +136,7 @@ module _ (D : Document) (N M : Intent) (C X : Change) (x : IsExtendedBy D (full 
           ap (λ o. Some (row_behind o u)) (ap (row_at C.rows) same ∙ e)
       go (Some r) e (Some u) g =
           let same = (item_of-has node_cmp node_cmp_total node_cmp_exact (λ (r : RowMarks). r.node) X.rows n u g).1 in
-          ap (λ o. Some (row_behind o u)) (ap (row_at C.rows) same ∙ e) ∙ ap (λ z. Some z) (row_together n r u same (no_difference_in n r u e g))
+          ap (λ o. Some (row_behind o u)) (ap (row_at C.rows) same ∙ e) ∙ ap (λ z. Some z) (row_together n r u same)
 
   pub of_parts : (G : Change) (new known : Nodes) (goes : NodeId → Option To) → ToldOfParts C X G new known goes → IsOfParts C X G new known goes
   of_parts G new known goes g = record {

@@ -13,11 +13,12 @@ ghost use Rattle.st_marks.specs.Extends.{IsExtendedBy};
 ghost use Rattle.st_marks.specs.Join.{AreParts, IsJoin};
 ghost use Rattle.st_marks.specs.Listings.{one_or_none};
 ghost use Rattle.st_marks.specs.Verdict.{IsAboveItself};
+ghost use Rattle.st_mention_laws.specs.Shown.{Shows};
 ghost use Rattle.st_parts.specs.JoinedParts.{TellsParts, named_by_parts};
 ghost use Rattle.st_parts.specs.Short.{HasShortRowsListed};
 ghost use Rattle.st_parts.specs.TrimmedChange.{ListsChange};
 ghost use Rattle.st_part_listings.specs.Together.{goes_of, known_by};
-ghost use Rattle.st_parts.specs.inside.OfParts.{ToldOfParts};
+ghost use Rattle.st_parts.specs.inside.OfParts.{ShowsListed, ToldOfParts};
 
 use crate::rows_of_parts::rows_of_parts;
 use crate::trimming::trim_if_short;
@@ -53,8 +54,8 @@ fn held_nodes(alloc: Global, regs: &[RegMark]) -> Result<BTreeSet<NodeId>, Alloc
 // What two parts tell of nodes and registers.
 fn tables_of(alloc: Global, first: &Change, second: &Change) -> Result<Tables, AllocError>
     ensures { (D : Document) (N M : Intent) → IsExtendedBy D (full D N) → AreParts D N M
-        → (c : IsEmbedding D N first.now) → (d : IsEmbedding (full D N) M second.now)
-        → IfOk result (λ t. TellsParts D N M c.mentioned d.mentioned (contains node_cmp t.new) (known_by t) (goes_of t)) }
+        → (c : Shows D N first.now) → (d : Shows (full D N) M second.now)
+        → IfOk result (λ t. TellsParts D N M c.1.mentioned d.1.mentioned (contains node_cmp t.new) (known_by t) (goes_of t)) }
 {
     let firsts = puts_of(alloc, first)?;
     let seconds = puts_of(alloc, second)?;
@@ -135,23 +136,30 @@ fn told_by(
 // What two parts say together. It may name more than both as one mention.
 fn listing_of_parts(alloc: Global, first: &Change, second: &Change) -> Result<Change, AllocError>
     requires { HasShortRowsListed second.now }
-    ensures { (D : Document) (N M J : Intent) → IsExtendedBy D (full D N) → AreParts D N M → IsJoin N M J
+    ensures exact { (D : Document) (N M J : Intent) → IsExtendedBy D (full D N) → AreParts D N M → IsJoin N M J
         → (c : IsEmbedding D N first.now) → (d : IsEmbedding (full D N) M second.now)
         → IfOk result (ListsChange D J (named_by_parts D c.mentioned d.mentioned)) }
+    ensures shown { (D : Document) (N M J : Intent) → IsExtendedBy D (full D N) → AreParts D N M → IsJoin N M J
+        → (c : Shows D N first.now) → (d : Shows (full D N) M second.now)
+        → IfOk result (ShowsListed D J (named_by_parts D c.1.mentioned d.1.mentioned)) }
 {
     let tables = tables_of(alloc, first, second)?;
     told_by(alloc, first, second, &tables)
 }
 
 /// Two parts of one commit as one change, where it is known that the second goes on from where the first leads, and that the two are
-/// parts of one commit which have a join: the change of both as one intent. Takes O(n log n) for n marks and names, whatever a Skip
-/// counts.
+/// parts of one commit which have a join: the change of both as one intent. Which empty cells that stay empty either of them names
+/// isn't read: of changes that count some of them the change of both may count these too. Takes O(n log n) for n marks and names,
+/// whatever a Skip counts.
 pub fn join_agreed(alloc: Global, first: &Change, then: &Change) -> Result<Change, AllocError>
     requires first { HasShortRowsListed first.now }
     requires second { HasShortRowsListed then.now }
-    ensures { (D : Document) (N M J : Intent) → IsSoundInForm D → AreParts D N M → ((n : Node) → IsAboveItself D N n → ⊥) → IsJoin N M J
+    ensures exact { (D : Document) (N M J : Intent) → IsSoundInForm D → AreParts D N M → ((n : Node) → IsAboveItself D N n → ⊥) → IsJoin N M J
         → HasShortRows (full D N) → HasShortRows (full (full D N) M) → IsEmbedding D N first.now → IsEmbedding (full D N) M then.now
         → IfOk result (IsEmbedding D J) }
+    ensures shown { (D : Document) (N M J : Intent) → IsSoundInForm D → AreParts D N M → ((n : Node) → IsAboveItself D N n → ⊥) → IsJoin N M J
+        → HasShortRows (full D N) → HasShortRows (full (full D N) M) → Shows D N first.now → Shows (full D N) M then.now
+        → IfOk result (Shows D J) }
 {
     let listing = listing_of_parts(alloc, first, then)?;
     trim_if_short(alloc, listing)

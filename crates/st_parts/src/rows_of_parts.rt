@@ -7,14 +7,14 @@ ghost use Rattle.st_marks.specs.declared.marks.RowMarks.{RowMarks as Row};
 ghost use Rattle.st_marks.specs.Row.{spread};
 ghost use Rattle.st_parts.specs.inside.OfParts.{AreRowsOf, row_behind as behind, row_of_both as both};
 
-use st_ids::{Copied, List, NodeId, Or};
+use st_ids::{Copied, List, NodeId};
 use st_listings::union;
 use st_marks::{Mark, RowMarks};
 use st_part_listings::table_of;
-use st_rows::join;
+use st_rows::join_alike;
 use std::alloc::{AllocError, Global};
 
-// A row that both list; as the first has it where what the first leaves differs from what the second finds.
+// A row that both list.
 fn row_of_both(
     alloc: Global,
     node: NodeId,
@@ -24,14 +24,8 @@ fn row_of_both(
     requires { length (spread second.now) < 2 ^ 32 }
     ensures { IfOk result (λ r. r ≡ both node first.now second.now) }
 {
-    match join(alloc, first, second) {
-        Ok(marks) => Ok(RowMarks { node, marks }),
-        Err(Or::Fault(_)) => Ok(RowMarks {
-            node,
-            marks: first.copy(alloc)?,
-        }),
-        Err(Or::NoMemory) => Err(AllocError),
-    }
+    let marks = join_alike(alloc, first, second)?;
+    Ok(RowMarks { node, marks })
 }
 
 // A row of the second part, behind that of the first.

@@ -4,6 +4,7 @@ ghost use Rattle.std.specs.BTreeSet.{contains};
 ghost use Rattle.st_ids.specs.Order.{node_cmp};
 ghost use Rattle.st_ids.specs.declared.names.NodeId.{NodeId as Node};
 ghost use Rattle.st_kind.specs.Named.{Nodes};
+ghost use Rattle.st_marks.specs.declared.changes.Change.{Change as Listing};
 ghost use Rattle.st_marks.specs.declared.intents.Intent.{Intent};
 ghost use Rattle.st_marks.specs.declared.marks.Loose.{Loose as LooseNode};
 ghost use Rattle.st_marks.specs.CarryOut.{full};
@@ -11,6 +12,7 @@ ghost use Rattle.st_marks.specs.Document.{Document, HasShortRows, IsSoundInForm}
 ghost use Rattle.st_marks.specs.Embedding.{IsEmbedding, IsMentionedByIntent};
 ghost use Rattle.st_marks.specs.Intent.{Fits};
 ghost use Rattle.st_marks.specs.Register.{holds_mentioned};
+ghost use Rattle.st_mention_laws.specs.Shown.{Shows, thin};
 ghost use Rattle.st_parts.specs.TrimmedChange.{ListsChange};
 ghost use Rattle.st_puts.specs.Mentions.{AreMentions};
 ghost use Rattle.st_parts.specs.Short.{HasShortRowsListed};
@@ -90,24 +92,28 @@ fn cut(alloc: Global, listing: Change, named: &BTreeSet<NodeId>) -> Result<Chang
 }
 
 /// The change of which a listing tells, perhaps with more nodes named than the intent mentions, and rows and registers listed that
-/// tell nothing: what is said with `named` alone named, the nodes that the intent mentions. Takes O(n log n) for n marks and
-/// names, whatever a Skip counts.
+/// tell nothing: what is said with `named` alone named, the nodes that the intent mentions. Empty cells that stay empty aren't
+/// read: of a listing that counts some of them the change counts these too. Takes O(n log n) for n marks and names, whatever a Skip
+/// counts.
 pub fn trim_change(
     alloc: Global,
     listing: Change,
     named: &BTreeSet<NodeId>,
 ) -> Result<Change, AllocError>
     requires { HasShortRowsListed listing }
-    ensures { (D : Document) (N : Intent) (K : Nodes) → IsSoundInForm D → ListsChange D N K listing
+    ensures exact { (D : Document) (N : Intent) (K : Nodes) → IsSoundInForm D → ListsChange D N K listing
         → ((n : Node) → (contains node_cmp named.now n ≡ true) ↔ IsMentionedByIntent D N n) → IfOk result (IsEmbedding D N) }
+    ensures shown { (D : Document) (N : Intent) (K : Nodes) (G : Listing) → IsSoundInForm D → ListsChange D N K G
+        → thin listing ≡ thin G → ((n : Node) → (contains node_cmp named.now n ≡ true) ↔ IsMentionedByIntent D N n)
+        → IfOk result (Shows D N) }
 {
     cut(alloc, listing, named)
 }
 
 // The nodes that the intent of a listing mentions: those that the listing tells as named, and all above them.
 fn mentions_of(alloc: Global, listing: &Change) -> Result<BTreeSet<NodeId>, AllocError>
-    ensures { (D : Document) (N : Intent) (K : Nodes) → IsSoundInForm D → Fits D N → ListsChange D N K listing.now
-        → IfOk result (λ s. AreMentions D N (contains node_cmp s)) }
+    ensures { (D : Document) (N : Intent) (K : Nodes) (G : Listing) → IsSoundInForm D → Fits D N → ListsChange D N K G
+        → thin listing.now ≡ thin G → IfOk result (λ s. AreMentions D N (contains node_cmp s)) }
 {
     let names = names_listed(alloc, listing)?;
     let places = places_listed(alloc, listing)?;
@@ -115,10 +121,13 @@ fn mentions_of(alloc: Global, listing: &Change) -> Result<BTreeSet<NodeId>, Allo
 }
 
 /// The change of which a listing tells, perhaps with more nodes named than the intent mentions, and rows and registers listed that
-/// tell nothing. Takes O(n log n) for n marks and names, whatever a Skip counts.
+/// tell nothing. Empty cells that stay empty aren't read: of a listing that counts some of them the change counts these too. Takes
+/// O(n log n) for n marks and names, whatever a Skip counts.
 pub fn trim_listing(alloc: Global, listing: Change) -> Result<Change, AllocError>
     requires { HasShortRowsListed listing }
-    ensures { (D : Document) (N : Intent) (K : Nodes) → IsSoundInForm D → Fits D N → ListsChange D N K listing → IfOk result (IsEmbedding D N) }
+    ensures exact { (D : Document) (N : Intent) (K : Nodes) → IsSoundInForm D → Fits D N → ListsChange D N K listing → IfOk result (IsEmbedding D N) }
+    ensures shown { (D : Document) (N : Intent) (K : Nodes) (G : Listing) → IsSoundInForm D → Fits D N → ListsChange D N K G
+        → thin listing ≡ thin G → IfOk result (Shows D N) }
 {
     let named = mentions_of(alloc, &listing)?;
     trim_change(alloc, listing, &named)
@@ -126,8 +135,10 @@ pub fn trim_listing(alloc: Global, listing: Change) -> Result<Change, AllocError
 
 /// The same, where the intent is known to leave rows short, but not that the listing lists few cells of each; else the listing.
 pub fn trim_if_short(alloc: Global, listing: Change) -> Result<Change, AllocError>
-    ensures { (D : Document) (N : Intent) (K : Nodes) → IsSoundInForm D → Fits D N → HasShortRows (full D N) → ListsChange D N K listing
+    ensures exact { (D : Document) (N : Intent) (K : Nodes) → IsSoundInForm D → Fits D N → HasShortRows (full D N) → ListsChange D N K listing
         → IfOk result (IsEmbedding D N) }
+    ensures shown { (D : Document) (N : Intent) (K : Nodes) (G : Listing) → IsSoundInForm D → Fits D N → HasShortRows (full D N)
+        → ListsChange D N K G → thin listing ≡ thin G → IfOk result (Shows D N) }
 {
     if has_short_rows(&listing) {
         trim_listing(alloc, listing)

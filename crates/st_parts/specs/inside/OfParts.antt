@@ -1,5 +1,5 @@
 -- What each of two parts of one commit says of a name, told so that the two are one listing.
-use Rattle.std.specs.Prelude.{◌≡◌, List, map, Option, Some, None, is_some, if◌then◌else◌}
+use Rattle.std.specs.Prelude.{◌≡◌, List, map, Option, Some, None}
 use Rattle.std.specs.Option.{option_or}
 use Rattle.st_ids.specs.Listing.{IsListing, item_of}
 use Rattle.st_ids.specs.Order.{node_cmp}
@@ -7,20 +7,22 @@ use Rattle.st_ids.specs.declared.names.NodeId.{NodeId}
 use Rattle.st_kind.specs.Named.{Nodes}
 use Rattle.st_marks.specs.declared.changes.Change.{Change}
 use Rattle.st_marks.specs.declared.changes.NewNode.{NewNode}
+use Rattle.st_marks.specs.declared.intents.Intent.{Intent}
 use Rattle.st_marks.specs.declared.intents.To.{To}
 use Rattle.st_marks.specs.declared.marks.Mark.{Mark}
 use Rattle.st_marks.specs.declared.marks.RowMarks.{RowMarks}
-use Rattle.st_marks.specs.Listings.{cells_after, cells_before}
+use Rattle.st_marks.specs.Document.{Document}
 use Rattle.st_marks.specs.Row.{merge, spread}
+use Rattle.st_mention_laws.specs.Shown.{thin}
 use Rattle.st_rows.specs.Cells.{join_row}
-use Rattle.st_rows.specs.Differences.{first_difference}
 use Rattle.st_part_listings.specs.Together.{AreLooseOf, AreNeedsOf, AreRegistersOf}
+use Rattle.st_parts.specs.TrimmedChange.{ListsChange}
 
 -- ## One name
 
--- a row that both list; it stays as the first has it where the two differ
+-- a row that both list
 abbrev pub row_of_both : NodeId → List Mark → List Mark → RowMarks
-row_of_both n s t = record { node = n; marks = if is_some (first_difference (cells_after (spread s)) (cells_before (spread t))) then s else merge (join_row (spread s) (spread t)) }
+row_of_both n s t = record { node = n; marks = merge (join_row (spread s) (spread t)) }
 
 -- a row of the second, behind that of the first
 abbrev pub row_behind : Option RowMarks → RowMarks → RowMarks
@@ -50,3 +52,7 @@ pub record ToldOfParts (C X G : Change) (new known : Nodes) (goes : NodeId → O
   pub need : AreNeedsOf new C.need X.need G.need
   pub new_nodes : AreNewOf C.new X.new G.new
   pub loose : AreLooseOf goes known C.loose X.loose G.loose
+
+-- g lists the change of N in D with the nodes of K named, but for which empty cells it names
+abbrev pub ShowsListed : Document → Intent → Nodes → Change → Type 0
+ShowsListed D N K g = (G : Change) × ListsChange D N K G × (thin g ≡ thin G)
