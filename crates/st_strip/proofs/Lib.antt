@@ -1,0 +1,4 @@
+pub mod RestCovered
+pub mod RestListed
+pub mod RestOfFields
+pub mod RestOfRows

@@ -1,0 +1,6 @@
+//! What is left of a step behind a first part of it, from marks alone: what is listed, as laws and as running code.
+#![tactic(auto)]
+
+mod laws;
+
+pub use laws::{rests_of_steps_are_covered, rests_of_steps_are_listed};
