@@ -15,6 +15,7 @@ ghost use Rattle.st_marks.specs.Extends.{IsExtendedBy};
 ghost use Rattle.st_marks.specs.Intent.{same_option};
 ghost use Rattle.st_marks.specs.Step.{IsStep};
 ghost use Rattle.st_marks.specs.Verdict.{IsBaseInEffect};
+ghost use Rattle.st_mention_laws.specs.Shown.{Shows, ShowsStep};
 ghost use Rattle.st_steps.specs.Short.{HasShortRowsListed};
 ghost use Rattle.st_revert.specs.Reversal.{has_rev as has_rev_told, takes_out as takes_out_told};
 ghost use Rattle.st_revert.specs.inside.ReadBack.{mark_back as mark_told, read_back};
@@ -149,8 +150,9 @@ fn takes_out(schema: &Option<SchemaStep>, rev: Rev) -> bool
 
 /// The change that takes a step back, where the step leads: the commit of the revision `rev`, made under the schema of `under`,
 /// that puts each node of the earlier document back where it was, and what the step put into its fields nowhere. Its `base` is
-/// false exactly where the step takes the schema of `under` out of effect. Takes O(n log n) for n marks and names, whatever a
-/// Skip counts.
+/// false exactly where the step takes the schema of `under` out of effect. Which empty cells that stay empty the step names isn't
+/// read: of one that counts some of them the change may count these too. Takes O(n log n) for n marks and names, whatever a Skip
+/// counts.
 pub fn revert(alloc: Global, step: &Step, rev: Rev, under: Rev) -> Result<Change, AllocError>
     requires { HasShortRowsListed step.now }
     ensures reverted { (D E : Document) (B : Intent) → IsExtendedBy D E → IsStep D E step.now → IsBack D E rev under B
@@ -158,6 +160,8 @@ pub fn revert(alloc: Global, step: &Step, rev: Rev, under: Rev) -> Result<Change
     ensures under_any { (D E : Document) (B : Intent) → IsExtendedBy D E → IsStep D E step.now → IsBack D E rev under B
         → IfOk result (λ c. (b : Bool) → IsTrue b ↔ IsBaseInEffect E B → IsEmbedding E B (record c { base = b })) }
     ensures base { IfOk result (λ c. c.base ≡ not (takes_out_told step.now.schema under)) }
+    ensures shown { (D E : Document) (B : Intent) → IsExtendedBy D E → ShowsStep D E step.now → IsBack D E rev under B
+        → Has (revs E.schemas) under → IfOk result (Shows E B) }
 {
     let back = invert(alloc, step)?;
     let new = new_names(alloc, step.new.as_slice())?;
