@@ -5,4 +5,5 @@ pub mod RestListed
 pub mod RestOfFields
 pub mod RestOfRows
 pub mod ThinPlaces
+pub mod ThinRest
 pub mod ToldApart

@@ -124,8 +124,11 @@ fn told_rest(
 pub fn rest_listing(alloc: Global, first: &Step, whole: &Step) -> Result<Step, AllocError>
     requires first { HasShortRowsListed first.now }
     requires whole { HasShortRowsListed whole.now }
-    ensures { (D E F : Document) → IsExtendedBy D E → IsExtendedBy E F → (s : IsStep D E first.now) → (t : IsStep D F whole.now)
+    ensures exact { (D E F : Document) → IsExtendedBy D E → IsExtendedBy E F → (s : IsStep D E first.now) → (t : IsStep D F whole.now)
         → IfOk result (λ g. ListsStep E F (named_rest D F s.mentioned t.mentioned) g) }
+    ensures shown { (D E F : Document) (S W : Listing) → IsExtendedBy D E → IsExtendedBy E F → (s : IsStep D E S) → (t : IsStep D F W)
+        → thin_step first.now ≡ thin_step S → thin_step whole.now ≡ thin_step W
+        → IfOk result (λ g. (G : Listing) × ListsStep E F (named_rest D F s.mentioned t.mentioned) G × (thin_step g ≡ thin_step G)) }
 {
     let of_first = tables_of(alloc, first)?;
     let of_whole = tables_of(alloc, whole)?;
