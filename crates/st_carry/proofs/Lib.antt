@@ -2,3 +2,5 @@ mod NodesRead
 mod EntriesOver
 mod OverSteps
 mod Listings
+mod ShortBefore
+mod ThinValues

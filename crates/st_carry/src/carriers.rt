@@ -1,9 +1,9 @@
 //! Carriers, by how their changes and steps read empty cells.
 ghost use Rattle.std.specs.Prelude.{true, false};
 
-use crate::both::carry;
+use crate::both::{carry, carry_thin};
 use st_marks::{Change, Step, Verdict};
-use st_reading::{Listed, Thin};
+use st_reading::Listed;
 use st_rebaser::Carrier;
 use std::alloc::{AllocError, Global};
 
@@ -35,6 +35,6 @@ impl Carrier for ThinCarrier {
         verdict: &mut Verdict,
         step: &mut Step,
     ) -> Result<(), AllocError> {
-        carry(alloc, &Thin, change, verdict, step)
+        carry_thin(alloc, change, verdict, step)
     }
 }
