@@ -10,7 +10,7 @@ use std::test::Fail;
 const SCHEMA: &str = "schema";
 
 // A node of the opening.
-fn node(at: u32) -> NodeId {
+pub fn node(at: u32) -> NodeId {
     NodeId(Atom { rev: OPENING, at })
 }
 
@@ -48,7 +48,7 @@ fn tree(alloc: Global) -> Result<Tree, AllocError> {
     })
 }
 
-fn opened(alloc: Global) -> Result<Forest, Fail> {
+pub fn opened(alloc: Global) -> Result<Forest, Fail> {
     let tree = tree(alloc)?;
     if check(&tree) != Ok(()) {
         return Err(Fail::from("too large"));
@@ -124,7 +124,7 @@ fn copies(alloc: Global) -> Result<bool, Fail> {
 }
 
 // The text leaves the row and takes the place of the title.
-fn promotion(alloc: Global) -> Result<Step, AllocError> {
+pub fn promotion(alloc: Global) -> Result<Step, AllocError> {
     let mut step = Step {
         new: List::new(alloc),
         rows: List::new(alloc),

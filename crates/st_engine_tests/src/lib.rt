@@ -1,10 +1,14 @@
-//! What no clause says of forests and of pushed changes: that there is an answer, with ample memory.
+//! What no clause says of the engine's calls: that there is an answer, with ample memory.
 #![tactic(auto)]
 
+#[cfg(test)]
+mod calls;
 #[cfg(test)]
 mod forests;
 #[cfg(test)]
 mod pushes;
+#[cfg(test)]
+mod readings;
 #[cfg(test)]
 mod rebases;
 #[cfg(test)]

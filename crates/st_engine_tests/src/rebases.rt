@@ -14,11 +14,11 @@ fn name(at: u32) -> Atom {
     }
 }
 
-fn gap(at: u32) -> Mark {
+pub fn gap(at: u32) -> Mark {
     Mark::Gap(CellId(name(at)))
 }
 
-fn leave(at: u32) -> Mark {
+pub fn leave(at: u32) -> Mark {
     Mark::Touch {
         cell: CellId(name(at)),
         node: NodeId(name(at)),
@@ -26,7 +26,7 @@ fn leave(at: u32) -> Mark {
     }
 }
 
-fn make(at: u32) -> Mark {
+pub fn make(at: u32) -> Mark {
     Mark::Make {
         cell: CellId(name(at)),
         node: NodeId(name(at)),
@@ -35,7 +35,7 @@ fn make(at: u32) -> Mark {
 }
 
 // The root's row, with these marks.
-fn row_of(alloc: Global, marks: &[Mark]) -> Result<List<RowMarks>, AllocError> {
+pub fn row_of(alloc: Global, marks: &[Mark]) -> Result<List<RowMarks>, AllocError> {
     let mut copy = List::new(alloc);
     for mark in marks {
         copy.push(*mark)?;
@@ -49,7 +49,7 @@ fn row_of(alloc: Global, marks: &[Mark]) -> Result<List<RowMarks>, AllocError> {
 }
 
 // The change that takes the second node out.
-fn change_of(alloc: Global, marks: &[Mark]) -> Result<Change, AllocError> {
+pub fn change_of(alloc: Global, marks: &[Mark]) -> Result<Change, AllocError> {
     let rows = row_of(alloc, marks)?;
     Ok(Change {
         rev: Rev { session: 2, num: 1 },
@@ -83,7 +83,7 @@ fn step_of(alloc: Global, marks: &[Mark]) -> Result<Step, AllocError> {
 }
 
 // Whether the marks of the only row are these.
-fn has_marks(change: &Change, marks: &[Mark]) -> bool {
+pub fn has_marks(change: &Change, marks: &[Mark]) -> bool {
     match change.rows.as_slice() {
         [row] => row.marks.as_slice() == marks,
         _ => false,
@@ -128,7 +128,7 @@ fn changes_go_over_steps(rt: HostRuntime) -> Result<(), AllocError> {
 }
 
 // Whether the marks of a step's only row are these, and no node is loose.
-fn tells(step: &Step, marks: &[Mark]) -> bool {
+pub fn tells(step: &Step, marks: &[Mark]) -> bool {
     match step.rows.as_slice() {
         [row] => row.marks.as_slice() == marks && step.loose.is_empty(),
         _ => false,
@@ -165,10 +165,20 @@ fn carried_counted(alloc: Global) -> Result<bool, AllocError> {
     carries::<ThinCarrier>(alloc, &before, &step, &after, &over)
 }
 
+// Both take the first node out.
+fn carried_where_they_meet(alloc: Global) -> Result<bool, AllocError> {
+    let before = [leave(1), leave(2), Mark::Skip(1)];
+    let step = [leave(1), Mark::Skip(1), make(4), Mark::Skip(1)];
+    let after = [Mark::Skip(1), leave(2), Mark::Skip(2)];
+    let over = [Mark::Skip(2), make(4), Mark::Skip(1)];
+    carries::<ThinCarrier>(alloc, &before, &step, &after, &over)
+}
+
 #[test]
 fn both_go_over_each_other(rt: HostRuntime) -> Result<(), AllocError> {
     let alloc = rt.alloc();
     let (named, counted) = (carried_listed(alloc)?, carried_counted(alloc)?);
-    assert!(rt; named && counted, "{named} {counted}");
+    let met = carried_where_they_meet(alloc)?;
+    assert!(rt; named && counted && met, "{named} {counted} {met}");
     Ok(())
 }
