@@ -1,4 +1,5 @@
-//! Steps that list a few rows, loose nodes and schemas: two in turn and the step over both, and the way back over one.
+//! Steps that list a few rows, loose nodes and schemas: two in turn and the step over both, what is left of that behind the first, and
+//! the way back over one.
 
 use crate::names::{
     A, A_COMES, A_LEAVES, B, B_STAYS, CELL_OF_A, CELL_OF_P, EMPTY_CELL, OURS, P, P_PUT, P_UNPUT, Q,
@@ -7,6 +8,7 @@ use crate::names::{
 use st_ids::{List, NodeId, OPENING, ROOT, Rev, Text};
 use st_marks::{How, Loose, Mark, SchemaEntry, SchemaStep, Step};
 use st_steps::{compose_agreed, has_short_rows, invert};
+use st_strip::strip;
 use std::alloc::{AllocError, Global};
 use std::test::Fail;
 
@@ -136,6 +138,34 @@ fn is_both(alloc: Global, case: &InTurn) -> Result<bool, AllocError> {
 fn wrong_turn(alloc: Global, cases: &[InTurn]) -> Result<Option<&'static str>, AllocError> {
     for case in cases {
         if !is_both(alloc, case)? {
+            return Ok(Some(case.name));
+        }
+    }
+    Ok(None)
+}
+
+// What is left of the step over both behind the first is the second.
+fn strips(alloc: Global, first: &Step, both: &Step, second: &Listed) -> Result<bool, AllocError> {
+    if !has_short_rows(first) || !has_short_rows(both) {
+        return Ok(false);
+    }
+    let made = strip(alloc, first, both)?;
+    is_step(alloc, &made, second)
+}
+
+fn leaves(alloc: Global, first: &Step, case: &InTurn) -> Result<bool, AllocError> {
+    let both = step(alloc, case.both)?;
+    strips(alloc, first, &both, case.second)
+}
+
+fn is_rest(alloc: Global, case: &InTurn) -> Result<bool, AllocError> {
+    let first = step(alloc, case.first)?;
+    leaves(alloc, &first, case)
+}
+
+fn wrong_rest(alloc: Global, cases: &[InTurn]) -> Result<Option<&'static str>, AllocError> {
+    for case in cases {
+        if !is_rest(alloc, case)? {
             return Ok(Some(case.name));
         }
     }
@@ -323,6 +353,14 @@ const SCHEMA_TURNS: [InTurn; 2] = [
 fn schemas_in_turn_are_one(rt: HostRuntime) -> Result<(), Fail> {
     let wrong = wrong_turn(rt.alloc(), &SCHEMA_TURNS)?;
     assert!(rt; wrong.is_none(), "{wrong:?}");
+    Ok(())
+}
+
+#[test]
+fn first_parts_are_stripped(rt: HostRuntime) -> Result<(), Fail> {
+    let rows = wrong_rest(rt.alloc(), &TURNS)?;
+    let schemas = wrong_rest(rt.alloc(), &SCHEMA_TURNS)?;
+    assert!(rt; rows.is_none() && schemas.is_none(), "{rows:?} {schemas:?}");
     Ok(())
 }
 
