@@ -4,10 +4,6 @@
 #[cfg(test)]
 mod cases;
 #[cfg(test)]
-mod documents;
-#[cfg(test)]
-mod intents;
-#[cfg(test)]
 mod random;
 #[cfg(test)]
 mod tally;

@@ -7,30 +7,16 @@ ghost use Rattle.st_doc.specs.Doc.{document_of};
 ghost use Rattle.st_effect.specs.Short.{HasShortRowsListed};
 
 use crate::cases::is_rebased_to;
-use crate::documents::{after, others, root_alone};
-use crate::intents::{Draw, intent_over};
 use crate::tally::{Tally, add, has_moved};
 use st_doc::Doc;
+use st_draws::{Draw, after, between, intent_over, others, root_alone};
 use st_effect::{effect, has_short_rows};
 use st_embed::embed;
-use st_ids::{Or, Rev};
+use st_ids::Rev;
 use st_marks::{Change, Intent, Step, Verdict};
-use st_step::step_to;
 use st_void::verdict;
 use std::alloc::{AllocError, Global};
 use std::test::Fail;
-
-// The step between two documents, if the later one has all that the earlier has.
-fn between(alloc: Global, doc: &Doc, later: &Doc) -> Result<Option<Step>, AllocError>
-    requires before { IsSoundInForm (document_of doc.now) }
-    requires after { IsSoundInForm (document_of later.now) }
-{
-    match step_to(alloc, doc, later) {
-        Ok(step) => Ok(Some(step)),
-        Err(Or::Fault(_)) => Ok(None),
-        Err(Or::NoMemory) => Err(AllocError),
-    }
-}
 
 // Whether a change with short rows does this, as its marks tell it.
 fn tells(alloc: Global, change: &Change, verdict: Verdict, step: &Step) -> Result<bool, AllocError>

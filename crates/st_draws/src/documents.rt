@@ -7,8 +7,9 @@ ghost use Rattle.st_doc.specs.Doc.{document_of};
 
 use crate::intents::{Draw, intent_over};
 use st_doc::Doc;
-use st_ids::{List, Rev, Text};
-use st_marks::Intent;
+use st_ids::{List, Or, Rev, Text};
+use st_marks::{Intent, Step};
+use st_step::step_to;
 use st_tree::{Tree, check};
 use std::alloc::{AllocError, Global};
 use std::test::Fail;
@@ -25,24 +26,23 @@ fn open(alloc: Global, tree: &Tree) -> Result<Doc, Fail>
     Ok(Doc::start(alloc, schema, tree)?)
 }
 
-// The document of a node of a type.
-fn open_with(alloc: Global, ty: Text) -> Result<Doc, Fail>
-    ensures { IfOk result (λ d. IsSoundInForm (document_of d)) }
+/// The tree of a list that is empty.
+pub fn empty_list(alloc: Global) -> Result<Tree, AllocError>
+    ensures { IfOk result (λ t. has_form (view t) ≡ true) }
 {
-    let tree = Tree {
-        ty,
+    Ok(Tree {
+        ty: Text::from_str(alloc, "list")?,
         leaf: None,
         fields: List::new(alloc),
-    };
-    open(alloc, &tree)
+    })
 }
 
-/// The document of a root alone.
+/// The document of a root alone, an empty list.
 pub fn root_alone(alloc: Global) -> Result<Doc, Fail>
     ensures { IfOk result (λ d. IsSoundInForm (document_of d)) }
 {
-    let ty = Text::from_str(alloc, "list")?;
-    open_with(alloc, ty)
+    let tree = empty_list(alloc)?;
+    open(alloc, &tree)
 }
 
 /// Carries an intent out where it fits.
@@ -88,4 +88,16 @@ pub fn others(alloc: Global, draw: &mut Draw, doc: &mut Doc, round: u32) -> Resu
         other(alloc, draw, doc, rev)?;
     }
     Ok(())
+}
+
+/// The step between two documents, if the later one has all that the earlier has.
+pub fn between(alloc: Global, doc: &Doc, later: &Doc) -> Result<Option<Step>, AllocError>
+    requires before { IsSoundInForm (document_of doc.now) }
+    requires after { IsSoundInForm (document_of later.now) }
+{
+    match step_to(alloc, doc, later) {
+        Ok(step) => Ok(Some(step)),
+        Err(Or::Fault(_)) => Ok(None),
+        Err(Or::NoMemory) => Err(AllocError),
+    }
 }
