@@ -1,5 +1,6 @@
 pub mod RowsPassed
 pub mod CountsRaised
+pub mod CountsBeside
 pub mod Seats
 pub mod MarksWalked
 pub mod Mentions

@@ -104,13 +104,13 @@ one_new (x ∷ (y ∷ front)) rest h e b = (first x h.0, one_new (y ∷ front) r
     first (Mark.Make c n b) s = tt
     first (Mark.Fill c n) s = tt
 
-pub raised_merged : (ms : List Mark) (p i k : ℕ) → IsSeat ms p (Seat.In i k) → IsMerged ms → IsMerged (slice_set ms i (Mark.Skip (k + 1)))
-raised_merged ms p i k s h =
+pub raised_merged : (ms : List Mark) (zs : List CellMark) (i k : ℕ) → IsSeat ms zs (Seat.In i k) → IsMerged ms → IsMerged (slice_set ms i (Mark.Skip (k + 1)))
+raised_merged ms zs i k s h =
     let n : k + 1 ≡ suc k = omega arith in
     let is : slice_set ms i (Mark.Skip (k + 1)) ≡ s.0 ++ Mark.Skip (suc k) ∷ s.1 = (λ j. slice_set (s.2 j) (sym s.3 j) (Mark.Skip (n j))) ∙ set_at s.0 s.1 (Mark.Skip k) (Mark.Skip (suc k)) in
     subst IsMerged (sym is) (stands-merge (s.0 ++ Mark.Skip (suc k) ∷ s.1) (recount s.0 s.1 k (subst AllStand s.2 (merged-stands ms h))))
 
-pub made_merged : (ms new : List Mark) (p i : ℕ) → IsSeat ms p (Seat.Before i) → new ≡ insert ms i (Mark.Skip 1) → IsMerged ms → IsMerged new
-made_merged ms new p i s e h =
+pub made_merged : (ms new : List Mark) (zs : List CellMark) (i : ℕ) → IsSeat ms zs (Seat.Before i) → new ≡ insert ms i (Mark.Skip 1) → IsMerged ms → IsMerged new
+made_merged ms new zs i s e h =
     let is : new ≡ s.0 ++ Mark.Skip 1 ∷ s.1 = e ∙ (λ j. insert (s.2 j) (sym s.3 j) (Mark.Skip 1)) ∙ put_at s.0 s.1 (Mark.Skip 1) in
     subst IsMerged (sym is) (stands-merge (s.0 ++ Mark.Skip 1 ∷ s.1) (one_new s.0 s.1 (subst AllStand s.2 (merged-stands ms h)) s.5 s.6))

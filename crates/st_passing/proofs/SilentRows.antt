@@ -1,5 +1,5 @@
 -- Rows that only one side lists.
-use Rattle.std.proofs.Common.{◌≡◌, ℕ, zero, suc, ◌+◌, List, [], ◌∷◌, refl, sym, ap, ◌∙◌, arith, length}
+use Rattle.std.proofs.Common.{false, ◌≡◌, ℕ, zero, suc, ◌+◌, List, [], ◌∷◌, refl, sym, ap, ◌∙◌, arith, length}
 use Rattle.st_marks.specs.Listings.{cells_before, cells_made}
 use Rattle.st_marks.specs.Row.{CellMark, Counted, Gap, Touch, Make, Fill, counted_cells}
 use Rattle.st_passing.specs.Passing.{raised, raised_beside}
@@ -11,7 +11,7 @@ counted-found zero = refl
 counted-found (suc k) = ap suc (counted-found k)
 
 pub silent_change : (k : ℕ) (xs : List CellMark) → length (cells_before xs) ≡ k → raised xs (counted_cells k []) ≡ xs
-silent_change k xs h = sym (counts_raised xs (counted_cells k []) (h ∙ sym (counted-found k))) ∙ counts_passed 0 k xs []
+silent_change k xs h = sym (counts_raised xs (counted_cells k []) (h ∙ sym (counted-found k))) ∙ counts_passed false 0 k xs []
 
 pub silent_step : (k : ℕ) (ys : List CellMark) → length (cells_before ys) ≡ k → raised_beside (counted_cells k []) ys ≡ ys
 silent_step zero [] h = refl

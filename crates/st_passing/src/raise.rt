@@ -1,13 +1,14 @@
 //! A change's row over a step's that it doesn't meet: its counts rise where they stand.
-ghost use Rattle.std.specs.Prelude.{◌≡◌, ◌<◌, ◌+◌, ◌-◌, ◌^◌, length, OnOk, OnErr, IfOk, true, false, List as Seq};
-ghost use Rattle.st_marks.specs.Listings.{cells_before};
+ghost use Rattle.std.specs.Prelude.{◌≡◌, ◌||◌, ◌<◌, ◌+◌, ◌-◌, ◌^◌, length, OnOk, OnErr, IfOk, true, false, List as Seq};
+ghost use Rattle.st_marks.specs.declared.marks.Mark.{Mark as AnyMark};
+ghost use Rattle.st_marks.specs.Listings.{cells_before, cells_made};
 ghost use Rattle.st_marks.specs.Row.{spread};
 ghost use Rattle.st_passing.specs.Passing.{cell_passes, counted_passes as counted_pass, do_not_meet, fill_passes as fill_pass, gap_passes as gap_pass, leave_passes as leave_pass, made_passes, raised, stay_passes as stays};
 ghost use Rattle.st_rows.specs.Merged.{IsMerged};
 ghost use Rattle.st_rows.specs.Pieces.{IsSingle};
 ghost use Rattle.st_rows.specs.Reading.{cell_of};
 ghost use Rattle.st_passing.specs.declared.raise.Seat.{Seat as Place};
-ghost use Rattle.st_passing.specs.Raising.{count_or_none, ends_count as ends, IsGo, IsSeat, with_count, with_counts};
+ghost use Rattle.st_passing.specs.Raising.{count_or_none, ends_count as ends, IsGo, IsSeat, count_by, past as if_past, with_counts, with_counts_beside, with_counts_by};
 
 use st_ids::List;
 use st_marks::{How, Mark};
@@ -42,28 +43,54 @@ enum Go {
     On(u32),
 }
 
+// Whether a cell is counted at the end of a count: at a place among all cells, or where no more are made there.
 #[inline(always)]
-fn go_of(mark: Mark, left: u32, more: &[Mark]) -> Go
-    ensures { IsGo mark left more.now result }
+fn may_end(among: bool, more: &[Mark]) -> bool
+    ensures { result ≡ (among || ends more.now) }
+{
+    among || ends_count(more)
+}
+
+// At a mark that counts so many cells.
+#[inline(always)]
+fn go_in(k: u32, among: bool, left: u32, more: &[Mark]) -> Go
+    ensures { (m : AnyMark) → m ≡ AnyMark.Skip k → IsGo among m left more.now result }
+{
+    if left < k {
+        return Go::In(k);
+    }
+    if left == k && may_end(among, more) {
+        return Go::In(k);
+    }
+    Go::On(left - k)
+}
+
+// At a mark of one cell.
+#[inline(always)]
+fn go_past(left: u32) -> Go
+    ensures { result ≡ if_past left }
+{
+    if left == 0 {
+        Go::Before
+    } else {
+        Go::On(left - 1)
+    }
+}
+
+#[inline(always)]
+fn go_of(mark: Mark, among: bool, left: u32, more: &[Mark]) -> Go
+    ensures { IsGo among mark left more.now result }
 {
     match mark {
-        Mark::Skip(k) => {
-            if left < k {
-                Go::In(k)
-            } else if left == k && ends_count(more) {
-                Go::In(k)
+        Mark::Skip(k) => go_in(k, among, left, more),
+        Mark::Make { .. } => {
+            if among {
+                go_past(left)
             } else {
-                Go::On(left - k)
+                Go::On(left)
             }
         }
-        Mark::Make { .. } => Go::On(left),
-        _ => {
-            if left == 0 {
-                Go::Before
-            } else {
-                Go::On(left - 1)
-            }
-        }
+        _ => go_past(left),
     }
 }
 
@@ -92,17 +119,18 @@ fn seat_at(at: usize, count: u32) -> Seat
     }
 }
 
-/// Where one more cell is counted behind so many that the marks find, and behind those that they make there.
+/// Where one more cell is counted: at a place among all cells, or else behind so many that the marks find, and behind those that
+/// they make there.
 #[inline(always)]
-fn seat_of(marks: &[Mark], place: u32) -> Seat
-    ensures { IsSeat marks.now place result }
+fn seat_of(marks: &[Mark], among: bool, place: u32) -> Seat
+    ensures { IsSeat marks.now (count_by among place (spread marks.now)) result }
 {
     let mut at = 0;
     let mut left = place;
     let mut count = 0;
     let mut rest = marks;
     while let [mark, more @ ..] = rest {
-        match go_of(*mark, left, more) {
+        match go_of(*mark, among, left, more) {
             Go::In(k) => return Seat::In(at, k),
             Go::Before => return seat_at(at, count),
             Go::On(j) => left = j,
@@ -116,12 +144,12 @@ fn seat_of(marks: &[Mark], place: u32) -> Seat
 
 /// Counts one more cell.
 #[inline(always)]
-fn count_at(marks: &mut List<Mark>, place: u32) -> Result<(), AllocError>
+fn count_at(marks: &mut List<Mark>, among: bool, place: u32) -> Result<(), AllocError>
     requires { length (spread marks.old) + 1 < 2 ^ 32 }
-    ensures cells { OnOk result (spread marks.new ≡ with_count place (spread marks.old)) }
+    ensures cells { OnOk result (spread marks.new ≡ count_by among place (spread marks.old)) }
     ensures merged { IsMerged marks.old → OnOk result (IsMerged marks.new) }
 {
-    match seat_of(marks.as_slice(), place) {
+    match seat_of(marks.as_slice(), among, place) {
         Seat::In(at, k) => {
             if let Some(mark) = marks.get_mut(at) {
                 *mark = Mark::Skip(k + 1);
@@ -135,20 +163,21 @@ fn count_at(marks: &mut List<Mark>, place: u32) -> Result<(), AllocError>
     }
 }
 
-/// Counts the cells that a step makes, in a change's row that finds as many cells as the step does: where the two don't meet, the
-/// change's row after the step is this. After an `Err` the row is spent.
-pub fn raise_counts(marks: &mut List<Mark>, step: &[Mark]) -> Result<(), AllocError>
-    requires room { length (spread marks.old) + length (spread step.now) < 2 ^ 32 }
-    ensures cells { OnOk result (spread marks.new ≡ with_counts 0 (spread marks.old) (spread step.now)) }
+/// Counts the cells that another listing of the row makes.
+#[inline(always)]
+fn count_all(marks: &mut List<Mark>, among: bool, other: &[Mark]) -> Result<(), AllocError>
+    requires room { length (spread marks.old) + length (cells_made (spread other.now)) < 2 ^ 32 }
+    requires places { length (spread other.now) < 2 ^ 32 }
+    ensures cells { OnOk result (spread marks.new ≡ with_counts_by among 0 (spread marks.old) (spread other.now)) }
     ensures merged { IsMerged marks.old → OnOk result (IsMerged marks.new) }
 {
     let mut place = 0;
-    let mut rest = step;
+    let mut rest = other;
     while let [mark, more @ ..] = rest {
         match *mark {
             Mark::Skip(k) => place += k,
             Mark::Make { .. } => {
-                count_at(marks, place)?;
+                count_at(marks, among, place)?;
                 place += 1;
             }
             _ => place += 1,
@@ -156,6 +185,28 @@ pub fn raise_counts(marks: &mut List<Mark>, step: &[Mark]) -> Result<(), AllocEr
         rest = more;
     }
     Ok(())
+}
+
+/// Counts the cells that a step makes, in a change's row that finds as many cells as the step does: where the two don't meet, the
+/// change's row after the step is this. After an `Err` the row is spent.
+pub fn raise_counts(marks: &mut List<Mark>, step: &[Mark]) -> Result<(), AllocError>
+    requires room { length (spread marks.old) + length (cells_made (spread step.now)) < 2 ^ 32 }
+    requires places { length (spread step.now) < 2 ^ 32 }
+    ensures cells { OnOk result (spread marks.new ≡ with_counts 0 (spread marks.old) (spread step.now)) }
+    ensures merged { IsMerged marks.old → OnOk result (IsMerged marks.new) }
+{
+    count_all(marks, false, step)
+}
+
+/// Counts the cells that a change makes, in a step's row, where the change counts those that the step makes already: where the two
+/// don't meet, the step's row after the change is this. After an `Err` the row is spent.
+pub fn raise_beside(marks: &mut List<Mark>, change: &[Mark]) -> Result<(), AllocError>
+    requires room { length (spread marks.old) + length (cells_made (spread change.now)) < 2 ^ 32 }
+    requires places { length (spread change.now) < 2 ^ 32 }
+    ensures cells { OnOk result (spread marks.new ≡ with_counts_beside 0 (spread marks.old) (spread change.now)) }
+    ensures merged { IsMerged marks.old → OnOk result (IsMerged marks.new) }
+{
+    count_all(marks, true, change)
 }
 
 /// What a table says of each piece: whether the change and the step pass each other there.
@@ -317,7 +368,8 @@ pub fn does_not_meet(change: &[Mark], step: &[Mark]) -> bool
 /// Raises the counts of a change's row by the cells that a step makes in it, where the two don't meet; both count empty cells.
 /// `false` says that they meet; then the row is as it was.
 pub fn raise_in_place(marks: &mut List<Mark>, step: &[Mark]) -> Result<bool, AllocError>
-    requires { length (spread marks.old) + length (spread step.now) < 2 ^ 32 }
+    requires room { length (spread marks.old) + length (cells_made (spread step.now)) < 2 ^ 32 }
+    requires places { length (spread step.now) < 2 ^ 32 }
     ensures meets { IfOk result (λ b. b ≡ do_not_meet false (spread marks.old) (spread step.now)) }
     ensures cells { length (cells_before (spread marks.old)) ≡ length (cells_before (spread step.now)) → IfOk result (λ b. b ≡ true → spread marks.new ≡ raised (spread marks.old) (spread step.now)) }
     ensures merged { IsMerged marks.old → OnOk result (IsMerged marks.new) }
