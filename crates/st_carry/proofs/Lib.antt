@@ -4,3 +4,4 @@ mod OverSteps
 mod Listings
 mod ShortBefore
 mod ThinValues
+mod CountsRise

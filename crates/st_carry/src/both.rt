@@ -125,7 +125,7 @@ pub fn carry<R: Reading>(
 }
 
 // A change and a step that pass each other, over each other.
-fn carry_passing(alloc: Global, change: &mut Change, step: &mut Step) -> Result<(), AllocError>
+fn carry_passing(change: &mut Change, step: &mut Step) -> Result<(), AllocError>
     requires laid { CanBeLaid change.now step.now }
     requires passes { Passes change.now step.now }
     ensures { OnOk result ((D E : Document) (N : Intent) (v : Outcome)
@@ -135,7 +135,7 @@ fn carry_passing(alloc: Global, change: &mut Change, step: &mut Step) -> Result<
         × IsExtendedBy (carried_document v D N) (carried_document v E N)
         × IsStepRead false (carried_document v D N) (carried_document v E N) step.exit.now) }
 {
-    raise_both(alloc, change, step)
+    raise_both(change, step)
 }
 
 /// The same where empty cells are counted: where the two pass each other, each only counts the cells that the other makes, and the
@@ -158,7 +158,7 @@ pub fn carry_thin(
         return Ok(());
     }
     if pass(change, step) {
-        return carry_passing(alloc, change, step);
+        return carry_passing(change, step);
     }
     carry_laid(alloc, &Thin, change, was, step)
 }

@@ -1,2 +1,2 @@
 pub mod TestsTell
-pub mod RoomOfRows
+pub mod RowsCounted

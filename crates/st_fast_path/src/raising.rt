@@ -1,86 +1,20 @@
 //! A change and a step that pass each other, over each other: each counts the cells that the other makes.
-ghost use Rattle.std.specs.Prelude.{◌≡◌, ◌<◌, ◌^◌, ◌∷◌, [], map, IfOk, OnOk, List as Seq};
+ghost use Rattle.std.specs.Prelude.{◌≡◌, [], slice_get, slice_set, IfSome, MatchOption, OnOk, List as Seq};
 ghost use Rattle.std.specs.List.{AllByRecursion};
 ghost use Rattle.std.specs.Option.{option_copied};
 ghost use Rattle.st_ids.specs.Listing.{IsRising};
 ghost use Rattle.st_ids.specs.Order.{node_cmp};
 ghost use Rattle.st_marks.specs.declared.marks.RowMarks.{RowMarks as Row};
-ghost use Rattle.st_marks.specs.Listings.{marks_of};
-ghost use Rattle.st_marks.specs.Row.{merge, spread};
 ghost use Rattle.st_over.specs.Laid.{CanBeLaid};
-ghost use Rattle.st_passing.specs.Passing.{raised as row_raised_by, raised_beside as row_raised_beside};
-ghost use Rattle.st_passing.specs.Whole.{raise_row as raised_row, raise_row_beside as raised_row_beside, raised_change, raised_step, row_in as row_of};
-ghost use Rattle.st_rows.specs.Changes.{may_list};
+ghost use Rattle.st_passing.specs.Whole.{raised_change, raised_step, row_in as row_of};
+ghost use Rattle.st_fast_path.specs.Raising.{CanBeRaised};
+ghost use Rattle.st_fast_path.specs.inside.Counted.{AreCounted, HasRoomFor, IsRowCounted};
 
-use st_ids::{Copied, List, NodeId};
-use st_marks::{Change, Mark, RowMarks, Step};
+use st_ids::{List, NodeId};
+use st_marks::{Change, RowMarks, Step};
 use st_over::item_at;
-use st_rows::{Piece, Table, lay_alike};
-use std::alloc::{AllocError, Global};
-
-/// What stays of the first listing: a cell that the second makes is counted.
-#[derive(Drop)]
-struct FirstKept;
-
-impl Table for FirstKept {
-    ghost use Rattle.st_passing.specs.Passing.{first_kept};
-
-    ghost cell = { λ t. first_kept };
-
-    #[inline(always)]
-    fn mark(&self, piece: Piece) -> Mark {
-        match piece {
-            Piece::Counted(k) => Mark::Skip(k),
-            Piece::Both(first, _) => first,
-            Piece::First(first) => first,
-            Piece::Then(_) => Mark::Skip(1),
-        }
-    }
-}
-
-/// And of the second.
-#[derive(Drop)]
-struct ThenKept;
-
-impl Table for ThenKept {
-    ghost use Rattle.st_passing.specs.Passing.{then_kept};
-
-    ghost cell = { λ t. then_kept };
-
-    #[inline(always)]
-    fn mark(&self, piece: Piece) -> Mark {
-        match piece {
-            Piece::Counted(k) => Mark::Skip(k),
-            Piece::Both(_, then) => then,
-            Piece::First(_) => Mark::Skip(1),
-            Piece::Then(then) => then,
-        }
-    }
-}
-
-// A row of the change with the cells counted that the step makes.
-fn marks_raised(
-    alloc: Global,
-    change: &List<Mark>,
-    step: &List<Mark>,
-) -> Result<List<Mark>, AllocError>
-    requires { may_list (spread change.now) (spread step.now) < 2 ^ 32 }
-    ensures { IfOk result (λ ms. ms ≡ merge (row_raised_by (spread change.now) (spread step.now))) }
-{
-    lay_alike(alloc, &FirstKept, change.as_slice(), step.as_slice())
-}
-
-// A row of the step with the cells counted that the change makes.
-fn marks_raised_beside(
-    alloc: Global,
-    change: &List<Mark>,
-    step: &List<Mark>,
-) -> Result<List<Mark>, AllocError>
-    requires { may_list (spread change.now) (spread step.now) < 2 ^ 32 }
-    ensures { IfOk result (λ ms. ms ≡ merge (row_raised_beside (spread change.now) (spread step.now))) }
-{
-    lay_alike(alloc, &ThenKept, change.as_slice(), step.as_slice())
-}
+use st_passing::{raise_beside, raise_counts};
+use std::alloc::AllocError;
 
 // The row that a list has of a node.
 fn row_in(rows: &List<RowMarks>, node: NodeId) -> Option<&RowMarks>
@@ -90,89 +24,66 @@ fn row_in(rows: &List<RowMarks>, node: NodeId) -> Option<&RowMarks>
     item_at(rows.as_slice(), &node)
 }
 
-// A row of the change, raised by the step's if the step lists it.
-fn row_raised(alloc: Global, row: &RowMarks, step: &List<RowMarks>) -> Result<RowMarks, AllocError>
-    requires rising { IsRising node_cmp (λ (r : Row). r.node) step.now }
-    requires room { may_list (spread row.now.marks) (marks_of step.now row.now.node) < 2 ^ 32 }
-    ensures { IfOk result (λ r. r ≡ raised_row step.now row.now) }
+// Counts in a row the cells that another listing makes there: a step's before those that the change makes, or a change's that
+// counts the step's already.
+fn count_row(row: &mut RowMarks, beside: bool, other: &List<RowMarks>) -> Result<(), AllocError>
+    requires rising { IsRising node_cmp (λ (r : Row). r.node) other.now }
+    requires room { HasRoomFor other.now row.now }
+    ensures { OnOk result (IsRowCounted beside other.now row.old row.new) }
 {
-    match row_in(step, row.node) {
-        None => row.copy(alloc),
-        Some(other) => {
-            let marks = marks_raised(alloc, &row.marks, &other.marks)?;
-            Ok(RowMarks {
-                node: row.node,
-                marks,
-            })
+    match row_in(other, row.node) {
+        None => Ok(()),
+        Some(there) => {
+            if beside {
+                raise_beside(&mut row.marks, there.marks.as_slice())
+            } else {
+                raise_counts(&mut row.marks, there.marks.as_slice())
+            }
         }
     }
 }
 
-// A row of the step, raised by the change's if the change lists it.
-fn row_raised_beside(
-    alloc: Global,
-    row: &RowMarks,
-    change: &List<RowMarks>,
-) -> Result<RowMarks, AllocError>
-    requires rising { IsRising node_cmp (λ (r : Row). r.node) change.now }
-    requires room { may_list (marks_of change.now row.now.node) (spread row.now.marks) < 2 ^ 32 }
-    ensures { IfOk result (λ r. r ≡ raised_row_beside change.now row.now) }
+// In the row at a place.
+fn count_at(
+    rows: &mut List<RowMarks>,
+    place: usize,
+    beside: bool,
+    other: &List<RowMarks>,
+) -> Result<(), AllocError>
+    requires rising { IsRising node_cmp (λ (r : Row). r.node) other.now }
+    requires room { IfSome (slice_get rows.now place) (HasRoomFor other.now) }
+    ensures { OnOk result (MatchOption (slice_get rows.old place) (rows.new ≡ rows.old)
+        (λ r. (q : Row) × (rows.new ≡ slice_set rows.old place q) × IsRowCounted beside other.now r q)) }
 {
-    match row_in(change, row.node) {
-        None => row.copy(alloc),
-        Some(other) => {
-            let marks = marks_raised_beside(alloc, &other.marks, &row.marks)?;
-            Ok(RowMarks {
-                node: row.node,
-                marks,
-            })
-        }
+    match rows.get_mut(place) {
+        None => Ok(()),
+        Some(row) => count_row(row, beside, other),
     }
 }
 
-// The rows of the change, raised by the step's.
-fn rows_raised(
-    alloc: Global,
-    rows: &[RowMarks],
-    step: &List<RowMarks>,
-) -> Result<List<RowMarks>, AllocError>
-    requires rising { IsRising node_cmp (λ (r : Row). r.node) step.now }
-    requires room { AllByRecursion (λ (r : Row). may_list (spread r.marks) (marks_of step.now r.node) < 2 ^ 32) rows.now }
-    ensures { IfOk result (λ l. l ≡ map (raised_row step.now) rows.now) }
+// In all rows.
+fn count_rows(
+    rows: &mut List<RowMarks>,
+    beside: bool,
+    other: &List<RowMarks>,
+) -> Result<(), AllocError>
+    requires rising { IsRising node_cmp (λ (r : Row). r.node) other.now }
+    requires room { AllByRecursion (HasRoomFor other.now) rows.now }
+    ensures { OnOk result (AreCounted beside other.now rows.old rows.new) }
 {
-    let mut raised = List::new(alloc);
-    for row in rows {
-        raised.push(row_raised(alloc, row, step)?)?;
+    for place in 0..rows.len() {
+        count_at(rows, place, beside, other)?;
     }
-    Ok(raised)
-}
-
-// The rows of the step, raised by the change's.
-fn rows_raised_beside(
-    alloc: Global,
-    rows: &[RowMarks],
-    change: &List<RowMarks>,
-) -> Result<List<RowMarks>, AllocError>
-    requires rising { IsRising node_cmp (λ (r : Row). r.node) change.now }
-    requires room { AllByRecursion (λ (r : Row). may_list (marks_of change.now r.node) (spread r.marks) < 2 ^ 32) rows.now }
-    ensures { IfOk result (λ l. l ≡ map (raised_row_beside change.now) rows.now) }
-{
-    let mut raised = List::new(alloc);
-    for row in rows {
-        raised.push(row_raised_beside(alloc, row, change)?)?;
-    }
-    Ok(raised)
-}
-
-/// A change and a step over each other, in place, where they pass each other: each row that both list is written anew, with the cells
-/// counted that the other makes. After an `Err` the step is as it was, or both are.
-pub fn raise_both(alloc: Global, change: &mut Change, step: &mut Step) -> Result<(), AllocError>
-    requires { CanBeLaid change.now step.now }
-    ensures change { OnOk result (change.exit.now ≡ raised_change change.entry.now step.entry.now) }
-    ensures step { OnOk result (step.exit.now ≡ raised_step change.entry.now step.entry.now) }
-{
-    let rows = rows_raised(alloc, change.rows.as_slice(), &step.rows)?;
-    step.rows = rows_raised_beside(alloc, step.rows.as_slice(), &change.rows)?;
-    change.rows = rows;
     Ok(())
+}
+
+/// A change and a step over each other, in place, where they pass each other: each row that both list counts the cells that the other
+/// makes there. No other row is touched. After an `Err` both are spent.
+pub fn raise_both(change: &mut Change, step: &mut Step) -> Result<(), AllocError>
+    requires { CanBeLaid change.now step.now }
+    ensures change { OnOk result (CanBeRaised change.entry.now step.entry.now → change.exit.now ≡ raised_change change.entry.now step.entry.now) }
+    ensures step { OnOk result (CanBeRaised change.entry.now step.entry.now → step.exit.now ≡ raised_step change.entry.now step.entry.now) }
+{
+    count_rows(&mut change.rows, false, &step.rows)?;
+    count_rows(&mut step.rows, true, &change.rows)
 }

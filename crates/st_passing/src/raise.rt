@@ -83,13 +83,7 @@ fn go_of(mark: Mark, among: bool, left: u32, more: &[Mark]) -> Go
 {
     match mark {
         Mark::Skip(k) => go_in(k, among, left, more),
-        Mark::Make { .. } => {
-            if among {
-                go_past(left)
-            } else {
-                Go::On(left)
-            }
-        }
+        Mark::Make { .. } => { if among { go_past(left) } else { Go::On(left) } }
         _ => go_past(left),
     }
 }

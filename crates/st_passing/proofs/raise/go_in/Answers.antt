@@ -1,7 +1,6 @@
 use Rattle.std.proofs.Common.{◌≡◌, ◌∷◌, [], ◌++◌, ◌-◌, sym, subst, ◌∙◌, arith, suc, ◌≤◌}
-use Rattle.st_marks.specs.declared.marks.Mark.{Mark}
 use Rattle.st_marks.specs.Row.{counted_cells, spread}
-use Rattle.st_passing.specs.Raising.{IsGo, count_by}
+use Rattle.st_passing.specs.Raising.{count_by}
 use Rattle.st_passing.proofs.Seats.{within, at_end, passed_by}
 use Rattle.st_passing.proofs.raise.go_in.Goals as goal
 
