@@ -1,1 +1,6 @@
+mod EntriesInParts
+mod Found
+mod FreeCells
+mod OffForests
+mod OverItself
 mod SidesOfRows

@@ -9,7 +9,7 @@ use Rattle.st_marks.specs.Listings.{cells_before}
 use Rattle.st_marks.specs.Row.{CellMark, Counted, Gap, Touch, Make, Fill, counted_cells}
 use Rattle.st_puts.specs.Seen.{AreAsSeen}
 use Rattle.st_author_laws.specs.Back.{row_back}
-use Rattle.st_author_over.specs.Side.{before, is_empty, is_make, sees, sees_back, sees_row}
+use Rattle.st_author_over.specs.inside.Side.{before, is_empty, is_make, sees, sees_back, sees_row}
 use Rattle.st_lemmas.proofs.Bools.{and-true, and-both}
 
 -- ## Turns

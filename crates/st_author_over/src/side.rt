@@ -1,11 +1,13 @@
 //! A row, a bridge to it, and a change before the bridge, side by side.
-ghost use Rattle.std.specs.Prelude.{◌≡◌, ◌↔◌, ◌∷◌, false, [], IsTrue, MatchOption, List as Seq};
+ghost use Rattle.std.specs.Prelude.{◌≡◌, ◌↔◌, ◌∷◌, drop, false, [], IsTrue, MatchOption, List as Seq};
+ghost use Rattle.st_marks.specs.declared.places.Slot.{Slot as Cell};
 ghost use Rattle.st_marks.specs.Listings.{cells_before};
 ghost use Rattle.st_marks.specs.Row.{CellMark, spread};
 ghost use Rattle.st_puts.specs.Seen.{AreAsSeen};
 ghost use Rattle.st_author_laws.specs.Back.{row_back};
-ghost use Rattle.st_author_over.specs.Side.{IsTurn, before as cell_before, cell as said, is_make, left, sees as seen, sees_back};
+ghost use Rattle.st_author_over.specs.inside.Side.{IsTurn, before as cell_before, cell as said, is_make, left, sees as seen, sees_back};
 
+use st_chunks::ChunkRow;
 use st_ids::{is_same_cell, is_same_node};
 use st_marks::{Mark, Slot};
 
@@ -13,7 +15,7 @@ use st_marks::{Mark, Slot};
 pub enum Turn<'a> {
     Done(bool),
     Go {
-        slots: &'a [Slot],
+        place: u64,
         y_count: u32,
         ys: &'a [Mark],
         x_count: u32,
@@ -92,22 +94,24 @@ fn back(slot: Slot, mark: Mark) -> Slot
     }
 }
 
-/// The first slot, and those behind it.
-#[inline(always)]
-fn first_slot<'a>(slots: &'a [Slot]) -> Option<(Slot, &'a [Slot])>
-    ensures { MatchOption result (slots.now ≡ []) (λ p. slots.now ≡ p.0 ∷ p.1.now) }
+/// The slot at a place, and the place behind it.
+pub fn slot_at(row: &ChunkRow, place: u64) -> Option<(Slot, u64)>
+    ensures { MatchOption result (drop place row.now ≡ []) (λ p. drop place row.now ≡ p.0 ∷ drop p.1 row.now) }
 {
-    match slots {
-        [slot, others @ ..] => Some((*slot, others)),
-        _ => None,
+    if row.len() <= place {
+        return None;
     }
+    let Ok(slot) = row.get(place) else {
+        return None;
+    };
+    Some((slot, place + 1))
 }
 
 /// A turn at whose beginning a cell of the row comes first, and a mark of the change that finds a cell, if any is left.
 #[inline(always)]
 fn cell_turn<'a>(
     slot: Slot,
-    slots: &'a [Slot],
+    place: u64,
     y_count: u32,
     ys: &'a [Mark],
     x_count: u32,
@@ -115,14 +119,14 @@ fn cell_turn<'a>(
     x: Option<(Mark, u32, &'a [Mark])>,
 ) -> Turn<'a>
     requires x { MatchOption x (left x_count xs.now ≡ []) (λ p. (is_make (said p.0) ≡ false) × (left x_count xs.now ≡ said p.0 ∷ left p.1 p.2.now)) }
-    ensures { IsTurn (slot ∷ slots.now) (left y_count ys.now) (left x_count xs.now) result }
+    ensures { (c : Seq Cell) → IsTurn c (slot ∷ drop place c) (left y_count ys.now) (left x_count xs.now) result }
 {
     let (was, j, zs) = match first(y_count, ys) {
         None => (slot, y_count, ys),
         Some((y, j, zs)) => {
             if makes(y) {
                 return Turn::Go {
-                    slots,
+                    place,
                     y_count: j,
                     ys: zs,
                     x_count,
@@ -137,7 +141,7 @@ fn cell_turn<'a>(
         Some((x, k, ws)) => {
             if sees(was, x) {
                 Turn::Go {
-                    slots,
+                    place,
                     y_count: j,
                     ys: zs,
                     x_count: k,
@@ -153,34 +157,35 @@ fn cell_turn<'a>(
 /// One turn.
 #[inline(always)]
 fn take_turn<'a>(
-    slots: &'a [Slot],
+    row: &ChunkRow,
+    place: u64,
     y_count: u32,
     ys: &'a [Mark],
     x_count: u32,
     xs: &'a [Mark],
 ) -> Turn<'a>
-    ensures { IsTurn slots.now (left y_count ys.now) (left x_count xs.now) result }
+    ensures { IsTurn row.now (drop place row.now) (left y_count ys.now) (left x_count xs.now) result }
 {
     match first(x_count, xs) {
-        None => match first_slot(slots) {
+        None => match slot_at(row, place) {
             None => Turn::Done(true),
-            Some((slot, others)) => cell_turn(slot, others, y_count, ys, x_count, xs, None),
+            Some((slot, next)) => cell_turn(slot, next, y_count, ys, x_count, xs, None),
         },
         Some((x, k, ws)) => {
             if makes(x) {
                 return Turn::Go {
-                    slots,
+                    place,
                     y_count,
                     ys,
                     x_count: k,
                     xs: ws,
                 };
             }
-            match first_slot(slots) {
+            match slot_at(row, place) {
                 None => Turn::Done(false),
-                Some((slot, others)) => cell_turn(
+                Some((slot, next)) => cell_turn(
                     slot,
-                    others,
+                    next,
                     y_count,
                     ys,
                     x_count,
@@ -192,32 +197,33 @@ fn take_turn<'a>(
     }
 }
 
-/// Whether a change finds what is so in its author's row, of which the row after the bridge is told.
-pub fn is_over_back(row: &[Slot], bridge: &[Mark], change: &[Mark]) -> bool
+/// Whether a change finds what is so in its author's row, of which the row after the bridge is told. It takes no memory. Each slot
+/// is found by its place, once.
+pub fn is_over_back(row: &ChunkRow, bridge: &[Mark], change: &[Mark]) -> bool
     ensures { IsTrue result ↔ AreAsSeen (row_back row.now (spread bridge.now)) (cells_before (spread change.now)) }
 {
     sees_all(row, bridge, change)
 }
 
-fn sees_all(row: &[Slot], bridge: &[Mark], change: &[Mark]) -> bool
+fn sees_all(row: &ChunkRow, bridge: &[Mark], change: &[Mark]) -> bool
     ensures { result ≡ sees_back row.now (spread bridge.now) (spread change.now) }
 {
-    let mut slots_left = row;
+    let mut next = 0;
     let mut y_count = 0;
     let mut ys = bridge;
     let mut x_count = 0;
     let mut xs = change;
     'cells: loop {
-        match take_turn(slots_left, y_count, ys, x_count, xs) {
+        match take_turn(row, next, y_count, ys, x_count, xs) {
             Turn::Done(answer) => return answer,
             Turn::Go {
-                slots,
+                place,
                 y_count: j,
                 ys: zs,
                 x_count: k,
                 xs: ws,
             } => {
-                slots_left = slots;
+                next = place;
                 y_count = j;
                 ys = zs;
                 x_count = k;
