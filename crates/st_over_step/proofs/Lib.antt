@@ -1,0 +1,10 @@
+mod Along
+mod Passing
+mod Counted
+mod Names
+mod InMarks
+mod Entries
+mod Tables
+mod Laws
+mod Leading
+mod Stored
