@@ -1,5 +1,5 @@
 -- What holds of each thing that is gone through.
-use Rattle.std.proofs.Common.{◌≡◌, ◌≤◌, ◌+◌, ℕ, zero, suc, ◌↔◌, Bool, true, List, [], ◌∷◌, Option, Some, IsTrue, drop, length, slice_get, refl, sym, subst, arith, get_or, inl, inr, ◌<◌, ap, ◌∙◌, false}
+use Rattle.std.proofs.Common.{◌≡◌, ◌≤◌, ◌+◌, ℕ, zero, suc, ◌↔◌, Bool, List, [], ◌∷◌, Some, IsTrue, drop, length, slice_get, refl, sym, subst, arith, get_or, inl, inr, ◌<◌, ap, ◌∙◌, false}
 use Rattle.std.specs.List.{AllByRecursion}
 use Rattle.st_ids.specs.Listing.{Has}
 use Rattle.st_ids.specs.Order.{same_node}

@@ -1,5 +1,5 @@
 -- Names that are one, as a test tells.
-use Rattle.std.proofs.Common.{[], ◌∷◌, ◌≡◌, ◌≢◌, ◌↔◌, Bool, true, false, not, IsTrue, Option, Some, refl, subst, sym, ap, ◌∙◌}
+use Rattle.std.proofs.Common.{[], ◌∷◌, ◌≡◌, ◌↔◌, Bool, true, false, not, IsTrue, Option, Some, refl, subst, sym, ap, ◌∙◌}
 use Rattle.st_ids.specs.Order.{same_cell, same_node, same_rev}
 use Rattle.st_ids.specs.declared.names.CellId.{CellId}
 use Rattle.st_ids.specs.declared.names.NodeId.{NodeId}

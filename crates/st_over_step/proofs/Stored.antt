@@ -1,5 +1,5 @@
 -- All rows of the table.
-use Rattle.std.proofs.Common.{◌≡◌, ◌↔◌, Bool, true, false, IsTrue, List, [], ◌∷◌, Option, Some, None, IfSome, unwrap_or, refl, sym, subst}
+use Rattle.std.proofs.Common.{◌≡◌, ◌↔◌, Bool, false, IsTrue, List, [], ◌∷◌, Option, Some, None, IfSome, unwrap_or, sym, subst}
 use Rattle.std.specs.BTreeMap.{BTreeMap, get, is_at, IsOrdered, keys, values}
 use Rattle.std.specs.List.{AllByRecursion}
 use Rattle.std.proofs.lemmas.Cmp.{eq_by_cmp_equiv}

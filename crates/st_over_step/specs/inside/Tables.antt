@@ -1,5 +1,5 @@
 -- What a step says of a document, in the words of the tables.
-use Rattle.std.specs.Prelude.{◌≡◌, ◌≢◌, ◌⊎◌, ◌∷◌, [], List, Some, None, IfSome, IsSome, option_map, unwrap_or}
+use Rattle.std.specs.Prelude.{◌≡◌, ◌≢◌, ◌⊎◌, [], List, Some, None, IsSome, option_map, unwrap_or}
 use Rattle.std.specs.BTreeMap.{get}
 use Rattle.std.specs.List.{AllByRecursion}
 use Rattle.st_ids.specs.Listing.{Has}
@@ -17,7 +17,7 @@ use Rattle.st_marks.specs.declared.schemas.SchemaEntry.{SchemaEntry}
 use Rattle.st_marks.specs.declared.steps.Step.{Step}
 use Rattle.st_marks.specs.Listings.{cells_before, cells_made, nodes_new}
 use Rattle.st_marks.specs.Row.{spread}
-use Rattle.st_normal.specs.Rules.{hole_owners, in_rows}
+use Rattle.st_normal.specs.Rules.{hole_owners}
 use Rattle.st_puts.specs.Seen.{AreAsSeen}
 use Rattle.st_forest.specs.declared.forest.Forest.{Forest}
 use Rattle.st_forest.specs.declared.forest.Seated.{Seated}
