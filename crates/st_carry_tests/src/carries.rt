@@ -4,11 +4,13 @@ ghost use Rattle.st_marks.specs.Intent.{Fits};
 ghost use Rattle.st_doc.specs.Doc.{document_of};
 
 use crate::tally::{Tally, add};
+use st_author_over::{author_over, is_over};
 use st_carry::{ListedCarrier, ThinCarrier};
 use st_doc::Doc;
 use st_draws::{after, between};
 use st_embed::embed;
 use st_fast_path::pass;
+use st_forest::Forest;
 use st_ids::Copied;
 use st_lean::can_be_laid;
 use st_marks::{Change, Intent, Step, Verdict};
@@ -136,11 +138,17 @@ fn verdicts(
     Ok((was, is))
 }
 
+// Whether a forest of the later document, to which the step leads, judges both changes so: each is that of an intent which fits.
+fn is_judged(forest: &Forest, case: &Case<'_>) -> bool {
+    author_over(forest, case.step, case.change) && is_over(forest, case.there)
+}
+
 // Whether the changes of an intent in two documents go over the step between these so, and the step over them.
 fn go_over(
     alloc: Global,
     doc: &Doc,
     later: &Doc,
+    forest: &Forest,
     intent: &Intent,
     change: &Change,
     there: &Change,
@@ -162,18 +170,19 @@ fn go_over(
                 over,
                 is,
             };
-            carries_both(alloc, &case, tally)
+            Ok(is_judged(forest, &case) && carries_both(alloc, &case, tally)?)
         }
         _ => Ok(false),
     }
 }
 
-/// Whether the change of an intent in a document goes over the step to a later one, and the step over it, as the documents tell: in
-/// both readings of empty cells.
+/// Whether the change of an intent in a document goes over the step to a later one, of which a forest is handed in, and the step over
+/// it, as the documents tell: in both readings of empty cells.
 pub fn is_carried(
     alloc: Global,
     doc: &Doc,
     later: &Doc,
+    forest: &Forest,
     intent: &Intent,
     tally: &mut Tally,
 ) -> Result<bool, AllocError>
@@ -184,5 +193,5 @@ pub fn is_carried(
 {
     let change = embed(alloc, doc, intent)?;
     let there = embed(alloc, later, intent)?;
-    go_over(alloc, doc, later, intent, &change, &there, tally)
+    go_over(alloc, doc, later, forest, intent, &change, &there, tally)
 }

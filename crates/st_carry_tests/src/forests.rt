@@ -11,6 +11,7 @@ use st_forest_start::start;
 use st_ids::{Copied, FieldId, Key, NodeId, Text};
 use st_listed::list_step;
 use st_marks::{Owned, Slot, Spot, Step};
+use st_over_step::is_over_step;
 use st_thin::thin_step;
 use std::alloc::{AllocError, Global};
 
@@ -169,7 +170,7 @@ fn leads_listed(
     is_document(alloc, forest, doc)
 }
 
-// Two forests, of which one goes along listed steps and the other along thin ones.
+// Two forests, of which one goes along listed steps, which stand over it, and the other along thin ones.
 fn lead(
     alloc: Global,
     listed: &mut Forest,
@@ -177,7 +178,8 @@ fn lead(
     step: &Step,
     doc: &Doc,
 ) -> Result<bool, AllocError> {
-    Ok(leads_listed(alloc, listed, step, doc)? && leads_thin(alloc, thin, step, doc)?)
+    let stands = is_over_step(listed, step);
+    Ok(stands && leads_listed(alloc, listed, step, doc)? && leads_thin(alloc, thin, step, doc)?)
 }
 
 /// Has both forests go along the step between two documents, and counts whether they are the later one then.

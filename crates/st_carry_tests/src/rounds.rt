@@ -19,6 +19,7 @@ fn judge(
     alloc: Global,
     doc: &Doc,
     later: &Doc,
+    forest: &Forest,
     intent: &Intent,
     tally: &mut Tally,
 ) -> Result<(), AllocError>
@@ -26,19 +27,20 @@ fn judge(
     requires after { IsSoundInForm (document_of later.now) }
 {
     if doc.fits(intent) && later.fits(intent) {
-        let right = is_carried(alloc, doc, later, intent, tally)?;
+        let right = is_carried(alloc, doc, later, forest, intent, tally)?;
         add(&mut tally.fit, true);
         add(&mut tally.wrong, !right);
     }
     Ok(())
 }
 
-// An intent in the document before others' intents.
+// An intent in the document before others' intents; the forest is of the one after them.
 fn draw_and_judge(
     alloc: Global,
     draw: &mut Draw,
     doc: &Doc,
     later: &Doc,
+    forest: &Forest,
     round: u32,
     tally: &mut Tally,
 ) -> Result<(), AllocError>
@@ -50,7 +52,7 @@ fn draw_and_judge(
         num: round,
     };
     let intent = intent_over(alloc, draw, doc, rev)?;
-    judge(alloc, doc, later, &intent, tally)
+    judge(alloc, doc, later, forest, &intent, tally)
 }
 
 /// A document, the forests that go along with it, and what occurred.
@@ -77,7 +79,15 @@ fn round(alloc: Global, table: &mut Table, round: u32, tally: &mut Tally) -> Res
         &table.doc,
         tally,
     )?;
-    draw_and_judge(alloc, &mut table.draw, &before, &table.doc, round, tally)
+    draw_and_judge(
+        alloc,
+        &mut table.draw,
+        &before,
+        &table.doc,
+        &table.thin,
+        round,
+        tally,
+    )
 }
 
 fn rounds(alloc: Global, table: &mut Table, tally: &mut Tally) -> Result<(), AllocError>
