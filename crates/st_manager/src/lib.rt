@@ -1,8 +1,13 @@
-//! The edit manager: what it keeps of a log and of commits that are pending, and what it lends.
+//! The edit manager: what it keeps of a log and of commits that are pending, what it lends, and what its calls that take an entry
+//! have to do.
 #![tactic(auto)]
 
+mod callers;
+mod calls;
 mod manager;
 mod parts;
 
+pub use callers::number_after;
+pub use calls::{Manages, ReceiveFault, Received, Spent};
 pub use manager::{AddFault, Manager, NoSession};
 pub use parts::{Seat, Turns};
