@@ -1,1 +1,3 @@
 pub mod Standing
+pub mod Contexts
+pub mod NewNames
