@@ -13,15 +13,20 @@ use st_listed::list_step;
 use st_marks::{Owned, Slot, Spot, Step};
 use st_over_step::is_over_step;
 use st_thin::thin_step;
+use st_tree::check;
 use std::alloc::{AllocError, Global};
+use std::test::Fail;
 
 /// The keys of the registers that are drawn.
 const KEYS: [&str; 2] = ["j", "k"];
 
 /// The forest of an empty list.
-pub fn forest_alone(alloc: Global) -> Result<Forest, AllocError> {
+pub fn forest_alone(alloc: Global) -> Result<Forest, Fail> {
     let tree = empty_list(alloc)?;
-    start(alloc, Text::from_str(alloc, "{}")?, &tree)
+    if check(&tree) != Ok(()) {
+        return Err(Fail::from("too large"));
+    }
+    Ok(start(alloc, Text::from_str(alloc, "{}")?, &tree)?)
 }
 
 // Whether a node stands there in a document.
