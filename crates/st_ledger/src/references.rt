@@ -71,9 +71,9 @@ impl Ledger {
         }
     }
 
-    // The minimum of the log.
+    /// The minimum of the log.
     #[tactic(auto, using(crate::proofs::LeastKnown::least_now))]
-    fn minimum(&self) -> u32
+    pub fn minimum(&self) -> u32
         ensures { (log : Seq Entry) → StandsFor self.now log → result ≡ minimum log }
     {
         least_of(self.connected.as_slice(), &self.known, self.entries)

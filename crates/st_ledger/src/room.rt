@@ -1,6 +1,7 @@
 //! For what there is room in a log.
 ghost use Rattle.std.specs.List.{sum_by};
-ghost use Rattle.std.specs.Prelude.{◌≡◌, ◌+◌, ◌-◌, ◌^◌, ◌&&◌, min, nat_le, nat_lt, List as Seq};
+ghost use Rattle.std.specs.Prelude.{◌≡◌, ◌↔◌, ◌<◌, ◌≤◌, ◌+◌, ◌-◌, ◌^◌, ◌&&◌, min, nat_le, nat_lt, length, true, List as Seq};
+ghost use Rattle.st_clusters.specs.Ids.{ids_of};
 ghost use Rattle.st_ledger.specs.Stands.{StandsFor};
 ghost use Rattle.st_lists.specs.declared.lists.Entry.{Entry};
 ghost use Rattle.st_valid.specs.Room.{cells_made_in, connected_in, has_room, has_room_for_entry, has_room_for_names, has_room_to_say, makes_cell, names_of_change};
@@ -103,6 +104,24 @@ impl Ledger {
                     None => false,
                 },
         }
+    }
+
+    /// Whether numbers are left for one more entry, whose commit makes so many names: `enter_commit` asks for it. They are where
+    /// there is room in the log.
+    pub fn has_numbers_for(&self, names: u32) -> bool
+        ensures { (result ≡ true)
+            ↔ ((self.now.entries + 1 < 2 ^ 32) × (self.now.names + names < 2 ^ 32)) }
+    {
+        self.entries < u32::MAX && names <= u32::MAX - self.names
+    }
+
+    /// Whether numbers are left for one more entry in which a session joins: `enter_join` asks for it. They are where there is
+    /// room in the log.
+    pub fn has_numbers_for_session(&self) -> bool
+        ensures { (result ≡ true)
+            ↔ ((self.now.entries < 65535) × (length (ids_of self.now.ids).sessions ≤ self.now.entries)) }
+    {
+        self.entries < 65535 && self.ids.sessions().len() <= self.entries as usize
     }
 
     /// Whether there is room in the log for a message: for an entry, for a session that joins, and for the names of a change.
