@@ -1,2 +1,3 @@
 pub mod ExtensionsBeside
+pub mod LaterLists
 pub mod ListsPushed

@@ -58,3 +58,9 @@ pub fn extends_beside()
         → HasShortRows (full D N) → HasShortRows (full E N) → IsVerdict D N v → IsVerdict E N u → IsEmbedding D N C → IsStep D E S
         → IsExtendedBy (carried_document v D N) (carried_document u E N) }
 {}
+
+/// The document after some intents is extended by that after the same intents in a later document.
+pub fn later_lists_extend()
+    ensures { (D E F G : Document) (Ns : Seq Intent) → IsExtendedBy D E → FitInTurn D Ns → FitInTurn E Ns → Run D Ns F → Run E Ns G
+        → IsExtendedBy F G }
+{}

@@ -4,6 +4,6 @@
 mod laws;
 
 pub use laws::{
-    changes_are_pushed, extends_beside, one_list_shows, references_are_raised, seats_take_commits,
-    shown_lists_run,
+    changes_are_pushed, extends_beside, later_lists_extend, one_list_shows, references_are_raised,
+    seats_take_commits, shown_lists_run,
 };
