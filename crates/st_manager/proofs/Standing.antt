@@ -29,19 +29,19 @@ use Rattle.st_log_laws.specs.Turns.{FitInTurn, HasRoom}
 use Rattle.st_log_laws.proofs.Turns.{then_one as fits_then, turn_extends}
 use Rattle.st_rebaser.specs.InTurn.{HaveVerdicts, ShowInTurn, none_judged, none_shown, one_judged, one_shown}
 use Rattle.st_push.proofs.ListsPushed.{runs, then_one}
-use Rattle.st_valid.specs.Author.{author_list}
 use Rattle.st_valid.specs.Room.{HasRoomForNames}
 use Rattle.st_valid_laws.specs.Messages.{no_message}
 use Rattle.st_valid_laws.proofs.NewRevisions.{new_more}
 use Rattle.st_window.specs.Window.{WindowView}
 use Rattle.st_window_laws.specs.Windows.{IsWindowOf}
 use Rattle.st_window_laws.proofs.Windowed.{begun}
-use Rattle.st_manager.specs.Stands.{HasSeat, IsBridge, IsSeat, StandInTurn, Stands}
+use Rattle.st_seats.specs.Seats.{HasSeat, IsBridge, IsSeat, StandInTurn}
+use Rattle.st_seats.specs.declared.seat.Seat.{Seat}
+use Rattle.st_manager.specs.Stands.{Stands}
 use Rattle.st_manager.specs.Told.{IsLocal, IsNextLocal, IsSoundTold, Told, local_list, pending_limit, told_first, with_local}
 use Rattle.st_rebaser.specs.declared.rebaser.Effected.{Effected}
 use Rattle.st_manager.specs.declared.manager.AddFault.{AddFault}
 use Rattle.st_manager.specs.declared.manager.Manager.{Manager}
-use Rattle.st_manager.specs.declared.parts.Seat.{Seat}
 
 -- ## Commits in turn
 
@@ -64,7 +64,7 @@ pub seat_bridge : (l : Bool) (O : Document) (log : List Entry) (session : ℕ) (
 seat_bridge l O log session q seat = record {
   author = seat.author;
   trunk = seat.trunk;
-  to_author = subst (λ k. Run O (author_list log session k) seat.author) seat.reference (run_then seat.to_base (runs seat.sent.shown));
+  to_author = run_then seat.to_base (runs seat.sent.shown);
   to_trunk = seat.to_trunk;
   extends = seat.extends;
   step = seat.bridge;

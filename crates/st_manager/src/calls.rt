@@ -8,7 +8,8 @@ ghost use Rattle.st_lists.specs.declared.lists.Body.TheVariants.{Commit};
 ghost use Rattle.st_log_laws.specs.Turns.{HasRoom};
 ghost use Rattle.st_marks.specs.declared.intents.Intent.{Intent};
 ghost use Rattle.st_normal.specs.Rules.{ObeysChangeRules};
-ghost use Rattle.st_manager.specs.Stands.{IsBridge, Stands};
+ghost use Rattle.st_seats.specs.Seats.{IsBridge};
+ghost use Rattle.st_manager.specs.Stands.{Stands};
 ghost use Rattle.st_manager.specs.Taking.{IsFirstCause, IsKnownAs, IsKnownTaken, IsTaken, LeavesRoom, change_said};
 ghost use Rattle.st_manager.specs.Told.{IsNextTold, Told, local_list};
 

@@ -6,10 +6,8 @@ mod callers;
 mod calls;
 mod laws;
 mod manager;
-mod parts;
 
 pub use callers::number_after;
 pub use calls::{Manages, ReceiveFault, Received, Spent};
 pub use laws::{contexts_are_judged, new_names_are_new};
 pub use manager::{AddFault, Manager, NoSession};
-pub use parts::{Seat, Turns};

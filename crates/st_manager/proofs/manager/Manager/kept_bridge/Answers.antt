@@ -1,5 +1,5 @@
 use Rattle.std.proofs.Common.{sym, subst}
-use Rattle.st_manager.specs.Stands.{HasSeat}
+use Rattle.st_seats.specs.Seats.{HasSeat}
 use Rattle.st_manager.proofs.Standing.{seat_bridge}
 use Rattle.st_manager.proofs.manager.Manager.kept_bridge.Goals as goal
 

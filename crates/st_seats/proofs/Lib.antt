@@ -1,0 +1,4 @@
+pub mod PastCommits
+pub mod Seated
+pub mod SeatsGoOn
+pub mod Followed
