@@ -1,3 +1,14 @@
 pub mod Standing
 pub mod Contexts
 pub mod NewNames
+pub mod Behind
+pub mod NamesMade
+pub mod NumbersLeft
+pub mod ValidCommits
+pub mod NothingSteps
+pub mod ReadSteps
+pub mod BridgesNamed
+pub mod Going
+pub mod HeadGone
+pub mod KnownCommits
+pub mod CommitsTaken

@@ -16,7 +16,7 @@ use Rattle.st_marks.specs.declared.changes.Change.{Change}
 use Rattle.st_marks.specs.declared.intents.Intent.{Intent}
 use Rattle.st_marks.specs.declared.verdicts.Verdict.{Verdict}
 use Rattle.st_marks.specs.Document.{Document, IsSoundInForm}
-use Rattle.st_marks.specs.Run.{Run, done}
+use Rattle.st_marks.specs.Run.{done}
 use Rattle.st_marks.specs.Verdict.{IsVerdict, carried_document}
 use Rattle.st_marks.proofs.Members.{has-append}
 use Rattle.st_marks.proofs.OneVerdict.{one_verdict, run_then}

@@ -5,7 +5,6 @@ use Rattle.std.specs.Ordering.{nat_cmp}
 use Rattle.st_forest.specs.Stands.{StandsFor}
 use Rattle.st_forest.specs.declared.forest.Forest.{Forest}
 use Rattle.st_ledger.specs.Stands.{StandsFor as IsLedgerOf}
-use Rattle.st_lists.specs.declared.lists.Entry.{Entry}
 use Rattle.st_lists.specs.Log.{floor, minimum}
 use Rattle.st_marks.specs.declared.changes.Change.{Change}
 use Rattle.st_marks.specs.declared.intents.Intent.{Intent}

@@ -1,22 +1,16 @@
-//! The calls that take an entry and that list a bridge, as a trait: what is written over a manager rests on these clauses alone.
+//! What the calls that take an entry answer, and the call that takes a message, as a trait: what is written over a manager rests on its
+//! clauses alone.
 ghost use Rattle.std.specs.Prelude.{Bool, true, false, ◌≡◌, ◌↔◌, IfOk, IfSome, IsErrOf};
-ghost use Rattle.st_clusters.specs.declared.ids.IdRange.{IdRange as Range};
 ghost use Rattle.st_ids.specs.Or.{IfRefused};
 ghost use Rattle.st_ids.specs.declared.fault.Or.TheVariants.{Fault, NoMemory};
-ghost use Rattle.st_lists.specs.Log.{is_connected};
-ghost use Rattle.st_lists.specs.declared.lists.Body.TheVariants.{Commit};
-ghost use Rattle.st_log_laws.specs.Turns.{HasRoom};
-ghost use Rattle.st_marks.specs.declared.intents.Intent.{Intent};
 ghost use Rattle.st_normal.specs.Rules.{ObeysChangeRules};
-ghost use Rattle.st_seats.specs.Seats.{IsBridge};
 ghost use Rattle.st_manager.specs.Stands.{Stands};
-ghost use Rattle.st_manager.specs.Taking.{IsFirstCause, IsKnownAs, IsKnownTaken, IsTaken, LeavesRoom, change_said};
-ghost use Rattle.st_manager.specs.Told.{IsNextTold, Told, local_list};
+ghost use Rattle.st_manager.specs.Taking.{IsFirstCause, IsTaken, LeavesRoom, change_said};
+ghost use Rattle.st_manager.specs.Told.{Told};
 
-use crate::manager::{Manager, NoSession};
-use st_clusters::IdRange;
+use crate::manager::Manager;
 use st_ids::Or;
-use st_marks::{Change, Step, Verdict};
+use st_marks::{Step, Verdict};
 use st_rebaser::Rebaser;
 use st_valid::{Message, ReplayCause};
 use std::alloc::Global;
@@ -58,29 +52,4 @@ pub trait Manages<R: Rebaser>: Sized {
             × Stands R.listed u manager.new) }
         ensures cause { (t : Told) → Stands R.listed t manager.old
             → IfRefused result (IsFirstCause t message.now) };
-
-    /// Takes a commit that is known to be valid, with its change in the document over which its session wrote, as the manager reads
-    /// changes.
-    fn receive_known(
-        manager: &mut Manager<R>,
-        alloc: Global,
-        change: Change,
-        session: u32,
-        reference: u32,
-        ids: IdRange,
-    ) -> Result<Received, Or<Spent>>
-        ensures spent { IsErrOf result (Fault (record {})) ↔ (manager.old.spent ≡ true) }
-        ensures kept { IfRefused result (λ _. manager.new ≡ manager.old) }
-        ensures want { IsErrOf result NoMemory → manager.new.spent ≡ true }
-        ensures taken { (t u : Told) (N : Intent) → Stands R.listed t manager.old
-            → IsKnownAs R.listed t session reference ids change N
-            → IsNextTold t session (Commit reference ids N) u → HasRoom u.opening (local_list u)
-            → IfOk result (λ r. IsKnownTaken R.listed t u N r × Stands R.listed u manager.new) };
-
-    /// The bridge of a session, with each empty cell named.
-    fn bridge_of(manager: &Manager<R>, alloc: Global, session: u32) -> Result<Step, Or<NoSession>>
-        ensures bridge { (t : Told) → Stands R.listed t manager.now
-            → IfOk result (IsBridge true t.opening t.log session) }
-        ensures no_session { (t : Told) → Stands R.listed t manager.now
-            → IsErrOf result (Fault (record {})) ↔ (is_connected session t.log ≡ false) };
 }

@@ -4,8 +4,13 @@
 
 mod callers;
 mod calls;
+mod head;
+mod keeping;
 mod laws;
+mod lending;
 mod manager;
+mod noting;
+mod receiving;
 
 pub use callers::number_after;
 pub use calls::{Manages, ReceiveFault, Received, Spent};

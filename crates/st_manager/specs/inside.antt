@@ -1,0 +1,2 @@
+-- The words of private functions: no public contract reaches them.
+pub mod Receiving

@@ -1,0 +1,43 @@
+-- A commit on its way into a manager.
+use Rattle.std.specs.Prelude.{◌≡◌, ℕ, Bool, length}
+use Rattle.std.specs.BTreeMap.{get}
+use Rattle.std.specs.Ordering.{nat_cmp}
+use Rattle.st_clusters.specs.declared.ids.IdRange.{IdRange}
+use Rattle.st_ledger.specs.Stands.{StandsFor as IsLedgerOf}
+use Rattle.st_lists.specs.declared.lists.Body.TheVariants.{Commit}
+use Rattle.st_lists.specs.Log.{floor}
+use Rattle.st_marks.specs.declared.intents.Intent.{Intent}
+use Rattle.st_marks.specs.Document.{Document}
+use Rattle.st_window_laws.specs.Windows.{IsWindowOf}
+use Rattle.st_rebaser.specs.declared.rebaser.Effected.{Effected}
+use Rattle.st_seats.specs.Seats.{HaveSeats, IsEntered}
+use Rattle.st_manager.specs.Stands.{IsHead}
+use Rattle.st_manager.specs.Taking.{IsLocalStep}
+use Rattle.st_manager.specs.Told.{IsNextTold, IsSoundTold, IsTrunk, Told}
+use Rattle.st_manager.specs.declared.calls.Received.{Received}
+use Rattle.st_manager.specs.declared.manager.Manager.{Manager}
+use Rattle.st_manager.specs.declared.receiving.Incoming.{Incoming}
+
+abbrev pub received : Incoming → Received
+received i = record { verdict = i.verdict; step = i.local }
+
+abbrev pub effected : Incoming → Effected
+effected i = record { step = i.step; verdict = i.verdict }
+
+-- ledger, head and seats are those of what is told with the commit; window and numbers are those from before it
+pub record IsUnderWay {R : Type 0} (l : Bool) (t u : Told) (session reference : ℕ) (ids : IdRange) (N : Intent) (M : Manager R) (i : Incoming) : Type 0 where
+  pub before : IsSoundTold t
+  pub after : IsSoundTold u
+  pub next : IsNextTold t session (Commit reference ids N) u
+  pub trunk : Document
+  pub to_trunk : IsTrunk t trunk
+  pub entered : IsEntered l trunk N i.change (effected i)
+  pub ledger : IsLedgerOf M.ledger u.log
+  pub head : IsHead l u M.trunk M.pending
+  pub seats : HaveSeats l u.opening u.log (λ s. get nat_cmp M.seats s)
+  pub floor_before : M.window.floor ≡ floor t.history t.log (length t.log)
+  pub window : IsWindowOf l t.opening t.log M.window
+  pub own : M.own ≡ u.own
+  pub history : M.history ≡ u.history
+  pub number : M.number ≡ length t.log
+  pub local : IsLocalStep l t u (received i)
