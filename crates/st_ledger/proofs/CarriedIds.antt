@@ -3,19 +3,20 @@ use Rattle.std.proofs.Common.{◌≡◌, ◌≤◌, ◌+◌, ◌-◌, ◌==◌, 
 use Rattle.std.specs.List.{list_any, slice_get, slice_set}
 use Rattle.std.proofs.lemmas.Bool.Decides.{nat_tests}
 use Rattle.std.specs.BTreeMap.{get}
-use Rattle.st_ids.specs.Order.{rev_cmp}
+use Rattle.st_ids.specs.Order.{rev_cmp, same_rev}
 use Rattle.st_ids.specs.declared.names.Rev.{Rev}
 use Rattle.st_clusters.specs.Log.{GoOn, IsTableOf, carried_count}
 use Rattle.st_clusters.specs.Table.{Ids, after_finalising, is_next, most_ids, on_session, raise_to, session_of, with_range}
 use Rattle.st_clusters.specs.declared.ids.IdFault.{IdFault}
 use Rattle.st_clusters.specs.declared.ids.IdFault.TheVariants.{RangeOrder}
 use Rattle.st_lemmas.proofs.Bools.{and-true}
+use Rattle.st_marks.specs.declared.intents.Intent.{Intent}
 use Rattle.st_marks.proofs.Members.{any-has}
 use Rattle.st_ledger.proofs.MoreEntries.{known_session}
 use Rattle.st_clusters.specs.declared.ids.IdRange.{IdRange}
 use Rattle.st_clusters.specs.declared.ids.SessionIds.{SessionIds}
 use Rattle.st_clusters.specs.Ids.{ids_of}
-use Rattle.st_lists.specs.Log.{is_connected, ranges_in}
+use Rattle.st_lists.specs.Log.{commits_in, is_connected, ranges_in}
 use Rattle.st_lists.specs.declared.lists.Entry.{Entry}
 use Rattle.st_valid.specs.Ids.{carried_in, is_new_revision, is_next_range}
 use Rattle.st_ledger.specs.Stands.{StandsFor}
@@ -67,6 +68,9 @@ next_of_ledger l s carried ids log stands e = ap (λ n. ids.session == s && (ids
 
 pub revision_of_ledger : (l : Ledger) (s : ℕ) (rev : Rev) (log : List Entry) → StandsFor l log → (rev.session == s && not (is_some (get rev_cmp l.revisions rev))) ≡ is_new_revision log s rev
 revision_of_ledger l s rev log stands = ap (λ b. rev.session == s && not b) (stands.revisions rev)
+
+pub commit_of_ledger : (l : Ledger) (rev : Rev) (log : List Entry) → StandsFor l log → is_some (get rev_cmp l.revisions rev) ≡ list_any (λ (N : Intent). same_rev N.rev rev) (commits_in log)
+commit_of_ledger l rev log stands = stands.revisions rev
 
 -- a range that is refused isn't the next one of a session that is connected
 pub range_refused : (l : Ledger) (s : ℕ) (ids : IdRange) (f : IdFault) (log : List Entry) → StandsFor l log → is_connected s log ≡ true → after_finalising ids (ids_of l.ids) ≡ Err f → is_next_range log s ids ≡ false

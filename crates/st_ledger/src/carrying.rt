@@ -1,10 +1,13 @@
 //! The ids that a commit carries, and its revision.
 ghost use Rattle.std.specs.Prelude.{◌≡◌, ◌+◌, ◌==◌, ◌&&◌, nat_le, not, is_some, List as Seq};
 ghost use Rattle.std.specs.BTreeMap.{get};
-ghost use Rattle.st_ids.specs.Order.{rev_cmp};
+ghost use Rattle.std.specs.List.{list_any};
+ghost use Rattle.st_ids.specs.Order.{rev_cmp, same_rev};
 ghost use Rattle.st_clusters.specs.Table.{most_ids};
 ghost use Rattle.st_ledger.specs.Stands.{StandsFor};
+ghost use Rattle.st_lists.specs.Log.{commits_in};
 ghost use Rattle.st_lists.specs.declared.lists.Entry.{Entry};
+ghost use Rattle.st_marks.specs.declared.intents.Intent.{Intent};
 ghost use Rattle.st_valid.specs.Ids.{has_new_revision, has_next_ids, ids_are_next, is_new_revision, is_next_range, revision_is_new};
 
 use crate::ledger::Ledger;
@@ -26,6 +29,13 @@ fn goes_on(session: u32, carried: u32, ids: IdRange) -> bool
     ids.session == session && (ids.first as u64 == next && last <= MOST_IDS)
 }
 
+// Whether a revision is among those of commits.
+fn is_known(revisions: &BTreeMap<Rev, u32>, rev: Rev) -> bool
+    ensures { result ≡ is_some (get rev_cmp revisions.now rev) }
+{
+    revisions.get(&rev).is_some()
+}
+
 // Whether a revision is of a session, and not among those of commits.
 fn is_new(revisions: &BTreeMap<Rev, u32>, session: u32, rev: Rev) -> bool
     ensures { result ≡ (rev.session == session && not (is_some (get rev_cmp revisions.now rev))) }
@@ -34,6 +44,15 @@ fn is_new(revisions: &BTreeMap<Rev, u32>, session: u32, rev: Rev) -> bool
 }
 
 impl Ledger {
+    /// Whether the log has a commit of a revision.
+    #[tactic(auto, using(crate::proofs::CarriedIds::commit_of_ledger))]
+    pub fn has_commit(&self, rev: Rev) -> bool
+        ensures { (log : Seq Entry) → StandsFor self.now log
+            → result ≡ list_any (λ (N : Intent). same_rev N.rev rev) (commits_in log) }
+    {
+        is_known(&self.revisions, rev)
+    }
+
     // Whether a range is the next one of a session.
     #[tactic(auto, using(crate::proofs::CarriedIds::next_of_ledger))]
     fn is_next_range(&self, session: u32, ids: IdRange) -> bool
