@@ -11,7 +11,11 @@ use std::alloc::{AllocError, Global};
 use std::collections::BTreeMap;
 
 // Seats a session.
-fn take_seat(seats: &mut BTreeMap<u32, Seat>, session: u32, seat: Seat) -> Result<(), AllocError>
+pub(crate) fn take_seat(
+    seats: &mut BTreeMap<u32, Seat>,
+    session: u32,
+    seat: Seat,
+) -> Result<(), AllocError>
     ensures own { OnOk result (get nat_cmp seats.new session ≡ Some seat) }
     ensures others { OnOk result ((other : ℕ) → (other == session) ≡ false
         → get nat_cmp seats.new other ≡ get nat_cmp seats.old other) }
