@@ -32,15 +32,15 @@ use Rattle.st_window_laws.proofs.Windowed.{numbers_within, risen, taken}
 use Rattle.st_manager.specs.Stands.{Stands}
 use Rattle.st_manager.specs.Taking.{IsKnownAs, IsKnownTaken}
 use Rattle.st_manager.specs.Told.{IsNextTold, IsSoundTold, Told, local_list}
-use Rattle.st_manager.specs.inside.Receiving.{IsUnderWay, effected, received}
+use Rattle.st_manager.specs.inside.Receiving.{IsUnderWay, received}
 use Rattle.st_manager.specs.declared.manager.Manager.{Manager}
-use Rattle.st_manager.specs.declared.receiving.Incoming.{Incoming}
+use Rattle.st_manager.specs.declared.receiving.Passed.{Passed}
 use Rattle.st_manager.proofs.Going.{told_goes_on}
 use Rattle.st_manager.proofs.HeadGone.{HasGoneOn, head_gone}
 use Rattle.st_manager.proofs.KnownCommits.{all_written, coming, floor_low, reference_between}
 use Rattle.st_manager.proofs.ValidCommits.{IsCounted, known_counts}
 
-module _ {R : Type 0} (l : Bool) (t u : Told) (session reference : ℕ) (ids : IdRange) (C : Change) (N : Intent) (M W : Manager R) (i : Incoming) where
+module _ {R : Type 0} (l : Bool) (t u : Told) (session reference : ℕ) (ids : IdRange) (C X : Change) (N : Intent) (M W : Manager R) (p : Passed) where
   -- what the parts' calls promise makes a commit that is under way
   pub under_way : (names : ℕ) (own : Bool) → Stands l t M → IsKnownAs l t session reference ids C N → IsNextTold t session (Commit reference ids N) u → HasRoom u.opening (local_list u)
       → (names_of_change C < 2 ^ 32 → names ≡ names_of_change C)
@@ -48,13 +48,13 @@ module _ {R : Type 0} (l : Bool) (t u : Told) (session reference : ℕ) (ids : I
       → IsLedgerOf W.ledger (log_with log session (Commit reference ids K)))
       → ((O A T : Document) (log : List Entry) (js : IdRange) (K : Intent) → AreAllWritten O log session → IsWindowOf l O log M.window → M.window.floor ≤ known_reference session log → is_connected session log ≡ true
       → known_reference session log ≤ reference → reference ≤ length log → HaveSeats l O log (λ s. get nat_cmp M.seats s) → IsComing l O log session reference A T K C
-      → IsEntered l T K i.change (effected i) × HaveSeats l O (log_with log session (Commit reference js K)) (λ s. get nat_cmp W.seats s))
+      → IsEntered l T K X p.effected × HaveSeats l O (log_with log session (Commit reference js K)) (λ s. get nat_cmp W.seats s))
       → ((own ≡ true) → M.own ≡ Some session) → ((own ≡ false) → M.own ≡ Some session → ⊥)
-      → ((D E : Document) → StandsFor M.trunk D → IsExtendedBy D E → IsStepRead l D E i.step → StandsFor W.trunk E)
-      → (own ≡ true → (D E : Document) (K : Intent) (Ns : List Intent) (w : Verdict) → StandInTurn l D (K ∷ Ns) M.pending E → IsVerdict D K w → StandInTurn l (carried_document w D K) Ns W.pending E × IsStepRead l E E i.local)
-      → (own ≡ false → (D E X : Document) (Ns : List Intent) → IsExtendedBy D E → FitInTurn D Ns → FitInTurn E Ns → StandInTurn l D Ns M.pending X → IsStepRead l D E i.step
-      → (Y : Document) × StandInTurn l E Ns W.pending Y × IsExtendedBy X Y × IsStepRead l X Y i.local)
-      → W.window ≡ M.window → W.own ≡ M.own → W.history ≡ M.history → W.number ≡ M.number → IsUnderWay l t u session reference ids N W i
+      → ((D E : Document) → StandsFor M.trunk D → IsExtendedBy D E → IsStepRead l D E p.effected.step → StandsFor W.trunk E)
+      → (own ≡ true → (D E : Document) (K : Intent) (Ns : List Intent) (w : Verdict) → StandInTurn l D (K ∷ Ns) M.pending E → IsVerdict D K w → StandInTurn l (carried_document w D K) Ns W.pending E × IsStepRead l E E p.local)
+      → (own ≡ false → (D E Z : Document) (Ns : List Intent) → IsExtendedBy D E → FitInTurn D Ns → FitInTurn E Ns → StandInTurn l D Ns M.pending Z → IsStepRead l D E p.effected.step
+      → (Y : Document) × StandInTurn l E Ns W.pending Y × IsExtendedBy Z Y × IsStepRead l Z Y p.local)
+      → W.window ≡ M.window → W.own ≡ M.own → W.history ≡ M.history → W.number ≡ M.number → IsUnderWay l t u session reference ids N W X p
   under_way names own s k n room counts noted take is_own not_own tables by_own by_other window same_own same_history same_number = record {
     before = s.told;
     after = z;
@@ -89,23 +89,23 @@ module _ {R : Type 0} (l : Bool) (t u : Told) (session reference : ℕ) (ids : I
       between : (known_reference session t.log ≤ reference) × (reference ≤ length t.log)
       between = reference_between l t session reference ids C N k
 
-      went : IsEntered l s.head.document N i.change (effected i) × HaveSeats l t.opening (log_with t.log session (Commit reference ids N)) (λ x. get nat_cmp W.seats x)
-      went = take t.opening k.author s.head.document t.log ids N (all_written t u session reference ids N s.told z n) s.window
+      went : IsEntered l s.head.document N X p.effected × HaveSeats l t.opening (log_with t.log session (Commit reference ids N)) (λ x. get nat_cmp W.seats x)
+      went = take t.opening k.author s.head.document t.log ids N (all_written t session s.told) s.window
           (subst (λ x. x ≤ known_reference session t.log) (sym s.floor) (floor_low t.history t.log session known.enters.connected)) known.enters.connected between.0 between.1 s.seats
           (coming t u session reference ids N s.told z n l C s.head.document s.head.to_document between.1 between.0 k)
 
-      head : HasGoneOn l t u W.trunk W.pending (received i)
-      head = head_gone l t u session reference ids N i.verdict M.trunk M.pending s.told z n s.head went.0.verdict own i.step W.trunk W.pending (received i)
+      head : HasGoneOn l t u W.trunk W.pending (received p)
+      head = head_gone l t u session reference ids N p.effected.verdict M.trunk M.pending s.told z n s.head went.0.verdict own p.effected.step W.trunk W.pending (received p)
           (λ e. sym s.own ∙ is_own e) (λ e q. not_own e (s.own ∙ q)) went.0.step tables by_own by_other
 
   -- with the window that keeps it, what is kept is what was told with it
-  pub kept_on : IsUnderWay l t u session reference ids N M i → (n m f : ℕ) (k : Kept)
+  pub kept_on : IsUnderWay l t u session reference ids N M X p → (n m f : ℕ) (k : Kept)
       → n ≡ min (M.number + 1) (2 ^ 32 - 1) → ((log : List Entry) → IsLedgerOf M.ledger log → m ≡ minimum log)
-      → k ≡ record { n = n; ids = ids; change = i.change; step = i.step; verdict = i.verdict }
+      → k ≡ record { n = n; ids = ids; change = X; step = p.effected.step; verdict = p.effected.verdict }
       → f ≡ m - M.history → (M.window.floor < k.n → All (λ (x : Kept). x.n < k.n) M.window.kept → M.window.floor ≤ f → W.window ≡ record { floor = f; kept = kept_above f (M.window.kept ++ k ∷ []) })
-      → W ≡ record M { window = W.window; number = n; minimum = m; spent = false } → IsKnownTaken l t u N (received i) × Stands l u W
+      → W ≡ record M { window = W.window; number = n; minimum = m; spent = false } → IsKnownTaken l t u N (received p) × Stands l u W
   kept_on w n m f k number least is less keeps new = (
-    record { verdict = record { document = w.trunk; ran = w.to_trunk; verdict = i.verdict; is = w.entered.verdict; told = refl }; step = w.local },
+    record { verdict = record { document = w.trunk; ran = w.to_trunk; verdict = p.effected.verdict; is = w.entered.verdict; told = refl }; step = w.local },
     subst (λ V. Stands l u V) (sym new) (record {
       told = w.after;
       live = refl;

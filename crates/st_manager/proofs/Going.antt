@@ -46,7 +46,7 @@ new_between rs Ns N Ms a b other = record {
 
 -- ## The log
 
-valid_more : (O : Document) (log : List Entry) (session : ℕ) (body : Body) (m : Message) → m.session ≡ session → IsValidLog O log → IsValid O log m → IsBodyOf O log session m.said body → IsValidLog O (log_with log session body)
+pub valid_more : (O : Document) (log : List Entry) (session : ℕ) (body : Body) (m : Message) → m.session ≡ session → IsValidLog O log → IsValid O log m → IsBodyOf O log session m.said body → IsValidLog O (log_with log session body)
 valid_more O log session body m of before valid says = subst (λ s. IsValidLog O (log_with log s body)) of (one_message_more before m valid body (subst (λ s. IsBodyOf O log s m.said body) (sym of) says))
 
 own_revision : (O : Document) (log : List Entry) (session reference : ℕ) (ids : IdRange) (N : Intent) → IsValidLog O (log_with log session (Commit reference ids N)) → N.rev.session ≡ session

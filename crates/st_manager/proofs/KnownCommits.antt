@@ -49,7 +49,7 @@ reference_low O log s n (said.Commit reference ids (Some C)) body e w is =
     let below : reference < n = grind (arith, nat_tests) in
     subst (λ b. reference_in (length log + 1) b ≤ length log + 1) (sym is.1) (omega (arith, below, e))
 
-number_of : (log : List Entry) (m : Message) → is_in_order log m ≡ true → m.n ≡ length log + 1
+pub number_of : (log : List Entry) (m : Message) → is_in_order log m ≡ true → m.n ≡ length log + 1
 number_of log m h = grind (arith, nat_tests)
 
 -- known references are those of entries that came
@@ -106,19 +106,21 @@ floor_low history log s on =
     let same : floor history log (length log) ≡ minimum log - history = ap (λ (es : List Entry). minimum es - history) all in
     omega (arith, same, low)
 
+-- ## What is told is written in turn
+
+pub all_written : (t : Told) (session : ℕ) → IsSoundTold t → AreAllWritten t.opening t.log session
+all_written t session s =
+    let all = all_stand t.opening s.sound s.made s.names s.valid in
+    record {
+      written = record { sound = s.sound; commits = all.whole.fit; author = λ r low. (all.authors session r low).fit; own = λ e M h is. have_own_revisions s.valid e h M is };
+      within = known_low s.valid;
+    }
+
 -- ## A commit that is known
 
 module _ (t u : Told) (session reference : ℕ) (ids : IdRange) (N : Intent) (s : IsSoundTold t) (z : IsSoundTold u) (n : IsNextTold t session (Commit reference ids N) u) where
   valid_after : IsValidLog t.opening (log_with t.log session (Commit reference ids N))
   valid_after = subst (IsValidLog t.opening) n.log (subst (λ O. IsValidLog O u.log) n.opening z.valid)
-
-  pub all_written : AreAllWritten t.opening t.log session
-  all_written =
-      let all = all_stand t.opening s.sound s.made s.names s.valid in
-      record {
-        written = record { sound = s.sound; commits = all.whole.fit; author = λ r low. (all.authors session r low).fit; own = λ e M h is. have_own_revisions s.valid e h M is };
-        within = known_low s.valid;
-      }
 
   pub coming : (l : Bool) (C : Change) (T : Document) → IsTrunk t T → reference ≤ length t.log → known_reference session t.log ≤ reference
       → (k : IsKnownAs l t session reference ids C N) → IsComing l t.opening t.log session reference k.author T N C

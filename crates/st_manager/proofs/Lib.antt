@@ -5,10 +5,11 @@ pub mod Behind
 pub mod NamesMade
 pub mod NumbersLeft
 pub mod ValidCommits
-pub mod NothingSteps
 pub mod ReadSteps
 pub mod BridgesNamed
 pub mod Going
 pub mod HeadGone
 pub mod KnownCommits
 pub mod CommitsTaken
+pub mod EntriesTold
+pub mod Pasts

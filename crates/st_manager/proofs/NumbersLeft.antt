@@ -1,13 +1,14 @@
 -- Where there is room for names in a log, its ledger has numbers left.
-use Rattle.std.proofs.Common.{◌≡◌, ◌≤◌, ◌<◌, ◌+◌, ◌-◌, ◌^◌, ◌&&◌, ◌∙◌, ℕ, true, min, nat_le, nat_lt, not, is_some, List, arith}
+use Rattle.std.proofs.Common.{◌≡◌, ◌≤◌, ◌<◌, ◌+◌, ◌-◌, ◌^◌, ◌&&◌, ◌∙◌, ℕ, true, min, nat_le, nat_lt, not, is_some, List, length, arith}
 use Rattle.std.proofs.lemmas.Bool.Decides.{nat_tests}
 use Rattle.st_ledger.specs.Stands.{StandsFor}
 use Rattle.st_ledger.specs.declared.ledger.Ledger.{Ledger}
-use Rattle.st_ledger.proofs.RoomLeft.{names_of_ledger}
+use Rattle.st_clusters.specs.Ids.{ids_of}
+use Rattle.st_ledger.proofs.RoomLeft.{entry_of_ledger, names_of_ledger}
 use Rattle.st_lemmas.proofs.Bools.{and-first, and-second}
 use Rattle.st_lists.specs.Limits.{log_limit_passed}
 use Rattle.st_lists.specs.declared.lists.Entry.{Entry}
-use Rattle.st_valid.specs.Room.{has_room_for_names}
+use Rattle.st_valid.specs.Room.{has_room_for_entry, has_room_for_names}
 
 pub names_few : (log : List Entry) (names : ℕ) → has_room_for_names log names ≡ true → names ≤ 2048
 names_few log names room =
@@ -24,3 +25,10 @@ numbers_left l log names stands room =
     let low : l.entries < 65535 = grind (arith, nat_tests) in
     let most : l.names + names ≤ 131072 = grind (arith, nat_tests) in
     (omega (arith, low), omega (arith, most))
+
+-- and where there is room for an entry, it has numbers for it
+pub entries_left : (l : Ledger) (log : List Entry) → StandsFor l log → has_room_for_entry log ≡ true → (l.entries < 65535) × (length (ids_of l.ids).sessions ≤ l.entries)
+entries_left l log stands room =
+    let same : nat_lt l.entries 65535 ≡ true = entry_of_ledger l log stands ∙ room in
+    let low : l.entries < 65535 = grind (arith, nat_tests) in
+    (low, stands.few)

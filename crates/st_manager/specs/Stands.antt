@@ -1,17 +1,15 @@
 -- For what a manager stands: each of its parts is what was told says, name by name and place by place.
-use Rattle.std.specs.Prelude.{◌≡◌, ℕ, Bool, false, List, length}
+use Rattle.std.specs.Prelude.{◌≡◌, ℕ, Bool, false, length}
 use Rattle.std.specs.BTreeMap.{get}
 use Rattle.std.specs.Ordering.{nat_cmp}
 use Rattle.st_forest.specs.Stands.{StandsFor}
 use Rattle.st_forest.specs.declared.forest.Forest.{Forest}
 use Rattle.st_ledger.specs.Stands.{StandsFor as IsLedgerOf}
 use Rattle.st_lists.specs.Log.{floor, minimum}
-use Rattle.st_marks.specs.declared.changes.Change.{Change}
 use Rattle.st_marks.specs.declared.intents.Intent.{Intent}
 use Rattle.st_marks.specs.Document.{Document}
 use Rattle.st_marks.specs.Verdict.{IsVerdict, carried_document}
 use Rattle.st_read_laws.specs.Reading.{IsStepRead}
-use Rattle.st_rebaser.specs.InTurn.{ShowInTurn}
 use Rattle.st_rebaser.specs.declared.rebaser.Effected.{Effected}
 use Rattle.st_window_laws.specs.Windows.{IsWindowOf}
 use Rattle.st_manager.specs.Told.{IsSoundTold, IsTrunk, Told}
@@ -20,10 +18,6 @@ use Rattle.st_seats.specs.Seats.{HasSeat, StandInTurn}
 use Rattle.st_seats.specs.declared.seat.Turns.{Turns}
 
 -- ## Commits in turn
-
--- these are the changes of the pending commits, each in the document that those before it in the local view leave
-abbrev pub ArePending : Bool → Told → List Change → Type 0
-ArePending l t Cs = (T : Document) × (F : Document) × IsTrunk t T × ShowInTurn l T t.pending Cs F
 
 -- the verdict of an intent in a document, and the step to the document after it
 pub record IsEffect (l : Bool) (D : Document) (N : Intent) (e : Effected) : Type 0 where

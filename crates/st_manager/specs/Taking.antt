@@ -107,3 +107,12 @@ pub record IsKnownAs (l : Bool) (t : Told) (session reference : ℕ) (ids : IdRa
 pub record IsKnownTaken (l : Bool) (t u : Told) (N : Intent) (r : Received) : Type 0 where
   pub verdict : HasVerdict t.opening t.log N (Some r.verdict)
   pub step : IsLocalStep l t u r
+
+-- ## What a session is known to say
+
+-- a session says so in a message that is valid
+pub record IsKnownToSay (t : Told) (session : ℕ) (says : Said) : Type 0 where
+  pub message : Message
+  pub of : message.session ≡ session
+  pub valid : IsValid t.opening t.log message
+  pub says_so : message.said ≡ says

@@ -1,6 +1,7 @@
 -- What a manager was told: the document that was opened, the entries that it received, and the own commits that it has not
 -- received back.
 use Rattle.std.specs.Prelude.{◌≡◌, ◌≤◌, ◌++◌, ℕ, Bool, List, [], ◌∷◌, length, Option, None, Some}
+use Rattle.st_history.specs.Past.{Past}
 use Rattle.st_ids.specs.Listing.{Has}
 use Rattle.st_ids.specs.Root.{opening}
 use Rattle.st_ids.specs.declared.names.Limit.{Limit}
@@ -36,6 +37,10 @@ told_first O history own = record { opening = O; history = history; own = own; l
 -- all commits in the order of the local view: those received, and behind them the pending ones
 abbrev pub local_list : Told → List Intent
 local_list t = commits_in t.log ++ t.pending
+
+-- the commits of which it tells
+abbrev pub past : Told → Past
+past t = record { opening = t.opening; log = t.log; pending = t.pending }
 
 -- T is the document of the commits received
 abbrev pub IsTrunk : Told → Document → Type 0

@@ -11,33 +11,20 @@ ghost use Rattle.st_read_laws.specs.Reading.{IsStepRead};
 ghost use Rattle.st_seats.specs.Seats.{StandInTurn};
 
 use st_forest::Forest;
-use st_ids::List;
+use st_ids::Copied;
 use st_marks::Step;
 use st_rebaser::{Rebaser, push_through};
-use st_seats::Turns;
+use st_seats::{Turns, no_step};
 use std::alloc::{AllocError, Global};
 
-// The step from a document to itself.
-pub(crate) fn no_step(alloc: Global) -> Step
-    ensures { (l : Bool) (D : Document) → IsStepRead l D D result }
-{
-    Step {
-        new: List::new(alloc),
-        rows: List::new(alloc),
-        regs: List::new(alloc),
-        loose: List::new(alloc),
-        schema: None,
-    }
-}
-
 // The pending commits go on by the step of another's commit. Gives the step behind them. After an `Err` they are spent.
-fn go_past<R: Rebaser>(alloc: Global, pending: &mut Turns, step: Step) -> Result<Step, AllocError>
+fn go_past<R: Rebaser>(alloc: Global, pending: &mut Turns, step: &Step) -> Result<Step, AllocError>
     ensures { IfOk result (λ s. (D E F : Document) (Ns : Seq Intent)
         → IsExtendedBy D E → FitInTurn D Ns → FitInTurn E Ns
-        → StandInTurn R.listed D Ns pending.old F → IsStepRead R.listed D E step
+        → StandInTurn R.listed D Ns pending.old F → IsStepRead R.listed D E step.now
         → (G : Document) × StandInTurn R.listed E Ns pending.new G × IsExtendedBy F G × IsStepRead R.listed F G s) }
 {
-    let mut over = step;
+    let mut over = step.copy(alloc)?;
     push_through::<R>(
         alloc,
         &mut pending.changes,
@@ -51,7 +38,7 @@ fn go_past<R: Rebaser>(alloc: Global, pending: &mut Turns, step: Step) -> Result
 fn pending_go_on<R: Rebaser>(
     alloc: Global,
     pending: &mut Turns,
-    step: Step,
+    step: &Step,
     own: bool,
 ) -> Result<Step, AllocError>
     ensures own { IfOk result (λ s. own ≡ true → (D F : Document) (N : Intent) (Ns : Seq Intent) (v : Outcome)
@@ -59,7 +46,7 @@ fn pending_go_on<R: Rebaser>(
         → StandInTurn R.listed (carried_document v D N) Ns pending.new F × IsStepRead R.listed F F s) }
     ensures other { IfOk result (λ s. own ≡ false → (D E F : Document) (Ns : Seq Intent)
         → IsExtendedBy D E → FitInTurn D Ns → FitInTurn E Ns
-        → StandInTurn R.listed D Ns pending.old F → IsStepRead R.listed D E step
+        → StandInTurn R.listed D Ns pending.old F → IsStepRead R.listed D E step.now
         → (G : Document) × StandInTurn R.listed E Ns pending.new G × IsExtendedBy F G × IsStepRead R.listed F G s) }
 {
     if own {
@@ -76,19 +63,19 @@ pub(crate) fn head_goes_on<R: Rebaser>(
     alloc: Global,
     trunk: &mut Forest,
     pending: &mut Turns,
-    step: Step,
+    step: &Step,
     own: bool,
 ) -> Result<Step, AllocError>
     ensures tables { OnOk result ((D E : Document) → StandsFor trunk.old D → IsExtendedBy D E
-        → IsStepRead R.listed D E step → StandsFor trunk.new E) }
+        → IsStepRead R.listed D E step.now → StandsFor trunk.new E) }
     ensures own { IfOk result (λ s. own ≡ true → (D F : Document) (N : Intent) (Ns : Seq Intent) (v : Outcome)
         → StandInTurn R.listed D (N ∷ Ns) pending.old F → IsVerdict D N v
         → StandInTurn R.listed (carried_document v D N) Ns pending.new F × IsStepRead R.listed F F s) }
     ensures other { IfOk result (λ s. own ≡ false → (D E F : Document) (Ns : Seq Intent)
         → IsExtendedBy D E → FitInTurn D Ns → FitInTurn E Ns
-        → StandInTurn R.listed D Ns pending.old F → IsStepRead R.listed D E step
+        → StandInTurn R.listed D Ns pending.old F → IsStepRead R.listed D E step.now
         → (G : Document) × StandInTurn R.listed E Ns pending.new G × IsExtendedBy F G × IsStepRead R.listed F G s) }
 {
-    trunk.apply(alloc, &step)?;
+    trunk.apply(alloc, step)?;
     pending_go_on::<R>(alloc, pending, step, own)
 }

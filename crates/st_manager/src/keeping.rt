@@ -32,3 +32,12 @@ pub(crate) fn keep(window: &mut Window, kept: Kept, floor: u32) -> Result<(), Al
     }
     Ok(())
 }
+
+/// The commits up to a floor are dropped. Nothing is done where the floor is lower than it was.
+pub(crate) fn raise_floor(window: &mut Window, floor: u32)
+    ensures { window.old.floor ≤ floor → window.new ≡ record { floor = floor; kept = kept_above floor window.old.kept } }
+{
+    if window.floor() <= floor {
+        window.advance(floor);
+    }
+}

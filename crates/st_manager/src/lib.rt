@@ -5,12 +5,14 @@
 mod callers;
 mod calls;
 mod head;
+mod history;
 mod keeping;
 mod laws;
 mod lending;
 mod manager;
 mod noting;
 mod receiving;
+mod telling;
 
 pub use callers::number_after;
 pub use calls::{Manages, ReceiveFault, Received, Spent};

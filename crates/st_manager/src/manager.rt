@@ -14,8 +14,9 @@ ghost use Rattle.st_marks.specs.Document.{Document, IsSoundInForm};
 ghost use Rattle.st_valid.specs.Room.{HasRoomForNames};
 ghost use Rattle.st_window_laws.specs.Windows.{IsWindowOf};
 ghost use Rattle.st_seats.specs.Seats.{IsBridge};
-ghost use Rattle.st_manager.specs.Stands.{ArePending, IsEffect, Stands};
-ghost use Rattle.st_manager.specs.Told.{IsLocal, IsNextLocal, Told, pending_limit, told_first, with_local};
+ghost use Rattle.st_history.specs.Past.{ArePending};
+ghost use Rattle.st_manager.specs.Stands.{IsEffect, Stands};
+ghost use Rattle.st_manager.specs.Told.{IsLocal, IsNextLocal, Told, past, pending_limit, told_first, with_local};
 
 use st_clusters::Compressor;
 use st_forest::Forest;
@@ -122,7 +123,7 @@ impl<R: Rebaser> Manager<R> {
 
     /// The pending commits, each in the document before it.
     pub fn pending(&self) -> &List<Change>
-        ensures { (t : Told) → Stands R.listed t self.now → ArePending R.listed t result.now }
+        ensures { (t : Told) → Stands R.listed t self.now → ArePending R.listed (past t) result.now }
     {
         &self.pending.changes
     }

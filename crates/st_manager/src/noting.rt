@@ -3,17 +3,19 @@ ghost use Rattle.std.specs.Prelude.{◌≡◌, ◌<◌, ◌^◌, true, OnOk, Lis
 ghost use Rattle.st_ledger.specs.Stands.{StandsFor};
 ghost use Rattle.st_lists.specs.Log.{is_connected, log_with};
 ghost use Rattle.st_lists.specs.Names.{names_made};
-ghost use Rattle.st_lists.specs.declared.lists.Body.TheVariants.{Commit};
+ghost use Rattle.st_lists.specs.declared.lists.Body.TheVariants.{Ack, Commit, Join, Leave};
 ghost use Rattle.st_lists.specs.declared.lists.Entry.{Entry};
 ghost use Rattle.st_marks.specs.declared.intents.Intent.{Intent};
 ghost use Rattle.st_valid.specs.Ids.{is_next_range};
-ghost use Rattle.st_valid.specs.Room.{has_room_for_names, names_of_change};
+ghost use Rattle.st_valid.specs.Room.{has_room_for_entry, has_room_for_names, names_of_change};
+ghost use Rattle.st_valid.specs.Sessions.{session_may};
+ghost use Rattle.st_valid.specs.declared.message.Said.TheVariants as said;
 
 use st_clusters::IdRange;
 use st_ids::{Or, Rev};
 use st_ledger::{Ledger, names_of_change};
 use st_marks::Change;
-use std::alloc::AllocError;
+use std::alloc::{AllocError, Global};
 
 /// How many names a change makes, if a `u32` can tell.
 pub(crate) fn names_in_change(change: &Change) -> u32
@@ -46,4 +48,53 @@ pub(crate) fn note_commit(
         Err(Or::Fault(_)) => Ok(()),
         Err(Or::NoMemory) => Err(AllocError),
     }
+}
+
+/// Takes note of a session that joins. Nothing is promised where it may not, or there is no room for it in the log.
+#[tactic(auto, using(crate::proofs::NumbersLeft::entries_left))]
+pub(crate) fn note_join(
+    alloc: Global,
+    ledger: &mut Ledger,
+    session: u32,
+    uuid: u128,
+) -> Result<(), AllocError>
+    ensures { OnOk result ((log : Seq Entry) → StandsFor ledger.old log
+        → session_may log session (said.Join uuid) ≡ true → has_room_for_entry log ≡ true
+        → StandsFor ledger.new (log_with log session (Join uuid))) }
+{
+    if !ledger.has_numbers_for_session() {
+        return Ok(());
+    }
+    match ledger.enter_join(alloc, session, uuid) {
+        Ok(()) => Ok(()),
+        Err(Or::Fault(_)) => Ok(()),
+        Err(Or::NoMemory) => Err(AllocError),
+    }
+}
+
+/// Takes note of a session that leaves. Nothing is promised where it isn't connected, or there is no room in the log.
+#[tactic(auto, using(crate::proofs::NumbersLeft::entries_left))]
+pub(crate) fn note_leave(alloc: Global, ledger: &mut Ledger, session: u32) -> Result<(), AllocError>
+    ensures { OnOk result ((log : Seq Entry) → StandsFor ledger.old log
+        → is_connected session log ≡ true → has_room_for_entry log ≡ true
+        → StandsFor ledger.new (log_with log session Leave)) }
+{
+    if !ledger.has_numbers_for_session() {
+        return Ok(());
+    }
+    ledger.enter_leave(alloc, session)
+}
+
+/// Takes note of how much of the log a session has received. Nothing is promised where it isn't connected, or there is no room in the
+/// log.
+#[tactic(auto, using(crate::proofs::NumbersLeft::entries_left))]
+pub(crate) fn note_ack(ledger: &mut Ledger, session: u32, reference: u32) -> Result<(), AllocError>
+    ensures { OnOk result ((log : Seq Entry) → StandsFor ledger.old log
+        → is_connected session log ≡ true → has_room_for_entry log ≡ true
+        → StandsFor ledger.new (log_with log session (Ack reference))) }
+{
+    if !ledger.has_numbers_for_session() {
+        return Ok(());
+    }
+    ledger.enter_ack(session, reference)
 }

@@ -12,25 +12,22 @@ ghost use Rattle.st_manager.specs.Told.{IsNextTold, Told, local_list};
 ghost use Rattle.st_manager.specs.inside.Receiving.{IsUnderWay};
 
 use crate::calls::{Received, Spent};
-use crate::head::{head_goes_on, no_step};
+use crate::head::head_goes_on;
 use crate::keeping::keep;
 use crate::manager::Manager;
 use crate::noting::{names_in_change, note_commit};
 use st_clusters::IdRange;
-use st_ids::{Copied, Or};
-use st_marks::{Change, Step, Verdict};
-use st_rebaser::Rebaser;
+use st_ids::Or;
+use st_marks::{Change, Step};
+use st_rebaser::{Effected, Rebaser};
 use st_seats::seats_take;
 use st_window::Kept;
 use std::alloc::{AllocError, Global};
 
-// A commit on its way: its change, first in its author's document and then where it comes, what it does there, and the step of the
-// local view.
+// What a commit does where it comes, and the step of the local view.
 #[derive(Drop)]
-pub(crate) struct Incoming {
-    pub change: Change,
-    pub step: Step,
-    pub verdict: Verdict,
+pub(crate) struct Passed {
+    pub effected: Effected,
     pub local: Step,
 }
 
@@ -45,61 +42,63 @@ fn is_own(own: Option<u32>, session: u32) -> bool
 }
 
 impl<R: Rebaser> Manager<R> {
-    // The ledger, the seats and the head go on by a commit. After an `Err` they are spent.
+    // The ledger, the seats and the head go on by a commit, whose change becomes that where it comes. After an `Err` they are spent.
     fn pass(
         &mut self,
         alloc: Global,
-        incoming: &mut Incoming,
+        change: &mut Change,
         session: u32,
         reference: u32,
         ids: IdRange,
-    ) -> Result<(), AllocError>
+    ) -> Result<Passed, AllocError>
         ensures spent { self.new.spent ≡ self.old.spent }
-        ensures passed { OnOk result ((t u : Told) (N : Intent) → Stands R.listed t (record self.old { spent = false })
-            → IsKnownAs R.listed t session reference ids incoming.old.change N
+        ensures passed { IfOk result (λ p. (t u : Told) (N : Intent) → Stands R.listed t (record self.old { spent = false })
+            → IsKnownAs R.listed t session reference ids change.entry.now N
             → IsNextTold t session (Commit reference ids N) u → HasRoom u.opening (local_list u)
-            → IsUnderWay R.listed t u session reference ids N self.new incoming.new) }
+            → IsUnderWay R.listed t u session reference ids N self.new change.exit.now p) }
     {
-        let names = names_in_change(&incoming.change);
-        note_commit(
-            &mut self.ledger,
-            session,
-            reference,
-            ids,
-            incoming.change.rev,
-            names,
-        )?;
+        let names = names_in_change(change);
+        note_commit(&mut self.ledger, session, reference, ids, change.rev, names)?;
         let effected = seats_take::<R>(
             alloc,
             &mut self.seats,
             &self.window,
             session,
             reference,
-            &mut incoming.change,
+            change,
         )?;
-        incoming.step = effected.step;
-        incoming.verdict = effected.verdict;
-        let over = incoming.step.copy(alloc)?;
         let own = is_own(self.own, session);
-        incoming.local = head_goes_on::<R>(alloc, &mut self.trunk, &mut self.pending, over, own)?;
-        Ok(())
+        let local = head_goes_on::<R>(
+            alloc,
+            &mut self.trunk,
+            &mut self.pending,
+            &effected.step,
+            own,
+        )?;
+        Ok(Passed { effected, local })
     }
 
     // A commit on its way is kept, and the floor rises. After an `Err` the window is spent.
-    fn keep_commit(&mut self, incoming: Incoming, ids: IdRange) -> Result<Received, AllocError>
+    fn keep_commit(
+        &mut self,
+        change: Change,
+        passed: Passed,
+        ids: IdRange,
+    ) -> Result<Received, AllocError>
         ensures spent { self.new.spent ≡ self.old.spent }
         ensures kept { IfOk result (λ r. (t u : Told) (session reference : ℕ) (N : Intent)
-            → IsUnderWay R.listed t u session reference ids N self.old incoming
+            → IsUnderWay R.listed t u session reference ids N self.old change passed
             → IsKnownTaken R.listed t u N r × Stands R.listed u (record self.new { spent = false })) }
     {
         self.number = self.number.saturating_add(1);
         self.minimum = self.ledger.minimum();
+        let verdict = passed.effected.verdict;
         let kept = Kept {
             n: self.number,
             ids,
-            change: incoming.change,
-            step: incoming.step,
-            verdict: incoming.verdict,
+            change,
+            step: passed.effected.step,
+            verdict,
         };
         keep(
             &mut self.window,
@@ -107,8 +106,8 @@ impl<R: Rebaser> Manager<R> {
             self.minimum.saturating_sub(self.history),
         )?;
         Ok(Received {
-            verdict: incoming.verdict,
-            step: incoming.local,
+            verdict,
+            step: passed.local,
         })
     }
 
@@ -128,14 +127,9 @@ impl<R: Rebaser> Manager<R> {
             → IsKnownTaken R.listed t u N r × Stands R.listed u self.new) }
     {
         self.spent = true;
-        let mut incoming = Incoming {
-            change,
-            step: no_step(alloc),
-            verdict: Verdict::Sound,
-            local: no_step(alloc),
-        };
-        self.pass(alloc, &mut incoming, session, reference, ids)?;
-        let received = self.keep_commit(incoming, ids)?;
+        let mut change = change;
+        let passed = self.pass(alloc, &mut change, session, reference, ids)?;
+        let received = self.keep_commit(change, passed, ids)?;
         self.spent = false;
         Ok(received)
     }
