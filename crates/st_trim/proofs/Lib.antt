@@ -8,4 +8,6 @@ mod ListingItems
 mod DifferingNodes
 mod PlacesTold
 mod CutItems
+mod ChangesAlone
+mod SomeMentioned
 mod ThinListings

@@ -1,9 +1,8 @@
 -- Where a listing tells nodes to stand, they stand in the earlier document; and of each node that it names it tells where.
 use Rattle.std.proofs.Common.{◌≡◌, ◌≢◌, ℕ, zero, suc, Bool, true, false, not, List, Option, Some, None, refl, sym, ap, ◌∙◌, subst, inl, inr, option_and_then, unwrap_or, cond}
-use Rattle.std.specs.BTreeMap.{BTreeMap, get}
 use Rattle.std.specs.List.{flat_map}
 use Rattle.st_ids.specs.Listing.{Has}
-use Rattle.st_ids.specs.Order.{node_cmp, same_node}
+use Rattle.st_ids.specs.Order.{same_node}
 use Rattle.st_ids.specs.declared.names.CellId.{CellId}
 use Rattle.st_ids.specs.declared.names.FieldId.{FieldId}
 use Rattle.st_ids.specs.declared.names.NodeId.{NodeId}
@@ -25,7 +24,6 @@ use Rattle.st_marks.proofs.Climb.{shown, stands}
 use Rattle.st_marks.proofs.Members.{append_left, append_right, flat_map-has, has-any, has-append, has-flat_map}
 use Rattle.st_puts.proofs.Basics.{register-not-nowhere, row-not-nowhere}
 use Rattle.st_puts.proofs.StepRows.{cell_with, kept-mark, touch-step}
-use Rattle.st_puts.specs.Mentions.{above_in, place_in}
 use Rattle.st_climb.specs.Upwards.{AreUpwards}
 use Rattle.st_puts.specs.inside.First.{first_at}
 use Rattle.st_puts.specs.inside.Spots.{held_spot, stood_by}
@@ -116,8 +114,11 @@ module _ (D E : Document) (K : Nodes) (G : Step) (x : IsExtendedBy D E) (l : Lis
 
   -- ## The nodes above
 
-  module _ (places : BTreeMap NodeId Spot) (told : (n : NodeId) → get node_cmp places n ≡ first_at (stood_before G) n) where
-    place_told : (n : NodeId) → K n ≡ true → place_in places n ≡ D.place n
+  module _ (at : NodeId → Option Spot) (told : (n : NodeId) → at n ≡ first_at (stood_before G) n) where
+    abbrev up : NodeId → Option NodeId
+    up n = node_of (unwrap_or (at n) Spot.Nowhere)
+
+    place_told : (n : NodeId) → K n ≡ true → unwrap_or (at n) Spot.Nowhere ≡ D.place n
     place_told n named = ap (λ o. unwrap_or o Spot.Nowhere) (told n) ∙ go (first_at (stood_before G) n) refl (D.place n) refl
       where
         apart : (s : Spot) → s ≢ Spot.Nowhere → D.place n ≡ s → first_at (stood_before G) n ≡ None → ⊥
@@ -129,17 +130,17 @@ module _ (D E : Document) (K : Nodes) (G : Step) (x : IsExtendedBy D E) (l : Lis
         go None e (Spot.Row r a) q = absurd (apart (Spot.Row r a) (row-not-nowhere r a) q e)
         go None e (Spot.Register f) q = absurd (apart (Spot.Register f) (register-not-nowhere f) q e)
 
-    climb_told : (j : ℕ) (s : NodeId) → K s ≡ true → climb (above_in places) j s ≡ climb (above D) j s
+    climb_told : (j : ℕ) (s : NodeId) → K s ≡ true → climb up j s ≡ climb (above D) j s
     climb_told zero s named = refl
-    climb_told (suc j) s named = ap (λ p. option_and_then (climb (above_in places) j) (node_of p)) (place_told s named) ∙ go (above D s) refl (λ p e. climb_told j p e)
+    climb_told (suc j) s named = ap (λ p. option_and_then (climb up j) (node_of p)) (place_told s named) ∙ go (above D s) refl (λ p e. climb_told j p e)
       where
-        go : (o : Option NodeId) → above D s ≡ o → ((p : NodeId) → K p ≡ true → climb (above_in places) j p ≡ climb (above D) j p)
-            → option_and_then (climb (above_in places) j) o ≡ option_and_then (climb (above D) j) o
+        go : (o : Option NodeId) → above D s ≡ o → ((p : NodeId) → K p ≡ true → climb up j p ≡ climb (above D) j p)
+            → option_and_then (climb up j) o ≡ option_and_then (climb (above D) j) o
         go None e rest = refl
         go (Some p) e rest = rest p (l.covers.closed s p named e)
 
     -- those that are told to differ, and all above them, are what the step mentions
-    pub upwards_mentioned : (begins has : Nodes) → ((n : NodeId) → begins n ≡ is_among (changes_told (is_among (nodes_new G.new)) G) n) → AreUpwards (above_in places) begins has → AreMentionedByStep D E has
+    pub upwards_mentioned : (begins has : Nodes) → ((n : NodeId) → begins n ≡ is_among (changes_told (is_among (nodes_new G.new)) G) n) → AreUpwards up begins has → AreMentionedByStep D E has
     upwards_mentioned begins has told_of up n = (
       λ e. (let r = (up n).0 e in
           let c = told-changed D E K G x l r.0 (among-has (changes_told (is_among (nodes_new G.new)) G) r.0 (sym (told_of r.0) ∙ r.1)) in

@@ -1,4 +1,5 @@
 use Rattle.std.proofs.Common.{ap, ◌∙◌}
+use Rattle.std.specs.BTreeMap.{get}
 use Rattle.std.specs.BTreeSet.{BTreeSet, contains}
 use Rattle.st_ids.specs.Order.{node_cmp}
 use Rattle.st_ids.specs.declared.names.NodeId.{NodeId}
@@ -17,5 +18,5 @@ returns c = λ D E K G x l e.
     let places = c.in_ok-places.places in
     let changed = contains node_cmp c.in_ok-changed.changed in
     IfOk-along c.upwards.result (λ (s : BTreeSet NodeId). AreUpwards (above_in places) changed (contains node_cmp s)) (λ (s : BTreeSet NodeId). AreMentionedByStep D E (contains node_cmp s))
-    (λ s up. upwards_mentioned D E K G x l places (λ n. c.in_ok-places.ensures n ∙ ap (λ ps. first_at ps n) (same_stood c.args.listing.now G e)) changed (contains node_cmp s)
+    (λ s up. upwards_mentioned D E K G x l (get node_cmp places) (λ n. c.in_ok-places.ensures n ∙ ap (λ ps. first_at ps n) (same_stood c.args.listing.now G e)) changed (contains node_cmp s)
     (λ n. c.in_ok-changed.ensures n ∙ ap (λ ns. is_among ns n) (same_changes c.args.listing.now G e)) up) c.upwards.ensures

@@ -9,7 +9,7 @@ use Rattle.st_trim.specs.inside.Cut.{IsCutTo}
 use Rattle.st_trim.proofs.CutItems.{cut_trims}
 use Rattle.st_trim.proofs.ThinListings.{trimmed_shows, trimmed_thin}
 use Rattle.st_trim.proofs.TrimmedSteps.{listing_trimmed}
-use Rattle.st_trim.proofs.trimming.trim_step.Goals as goal
+use Rattle.st_trim.proofs.trimming.trim_named.Goals as goal
 
 pub returns-clause-exact : goal.returns-clause-exact
 returns-clause-exact c = λ D E K x l.
