@@ -1,4 +1,5 @@
 pub mod ListLoops
 pub mod MapListings
+pub mod MergedListings
 pub mod NodesRead
 mod Settling

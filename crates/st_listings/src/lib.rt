@@ -2,6 +2,7 @@
 #![tactic(auto)]
 
 mod found;
+mod merging;
 mod schemas;
 mod unions;
 

@@ -5,7 +5,9 @@ ghost use Rattle.std.specs.Option.{option_or};
 ghost use Rattle.std.specs.Ordering.{is_eq};
 ghost use Rattle.std.specs.declared.cmp.Ordering.TheVariants.{Equal};
 ghost use Rattle.st_ids.specs.Listing.{IsListing, item_of};
+ghost use Rattle.st_listings.specs.inside.Merging.{of_either};
 
+use crate::merging::{merge, rise};
 use st_ids::{Copied, FieldId, List, NodeId};
 use st_marks::{Loose, NewNode, RegStep, RowMarks};
 use std::alloc::{AllocError, Global};
@@ -94,8 +96,8 @@ fn keep_all<T: Named<K> + Copied + Drop, K: Ord + Copied + Drop>(
     Ok(())
 }
 
-// Adds a copy of an item.
-fn push_copy<T: Copied + Drop>(
+/// Adds a copy of an item.
+pub(crate) fn push_copy<T: Copied + Drop>(
     alloc: Global,
     list: &mut List<T>,
     item: &T,
@@ -122,7 +124,23 @@ fn in_order<T: Copied + Drop, K: Ord + Drop>(
     Ok(list)
 }
 
-/// The items of two listings in one: at a name that both have, the item of the first.
+// The items of two lists in one that rises by name, by way of a map.
+fn union_by_map<T: Named<K> + Copied + Drop, K: Ord + Copied + Drop>(
+    alloc: Global,
+    first: &[T],
+    second: &[T],
+) -> Result<List<T>, AllocError>
+    requires { (a b : K) → K.cmp a b ≡ Equal → a ≡ b }
+    ensures { IfOk result (λ l. IsListing K.cmp T.key l (of_either K.cmp T.key first.now second.now)) }
+{
+    let mut map = BTreeMap::new(alloc);
+    keep_all(alloc, &mut map, first)?;
+    keep_all(alloc, &mut map, second)?;
+    in_order(alloc, &map)
+}
+
+/// The items of two listings in one: at a name that both have, the item of the first. Lists that rise by name are merged, which
+/// needs no map.
 pub fn union<T: Named<K> + Copied + Drop, K: Ord + Copied + Drop>(
     alloc: Global,
     first: &[T],
@@ -132,8 +150,9 @@ pub fn union<T: Named<K> + Copied + Drop, K: Ord + Copied + Drop>(
     ensures { IfOk result (λ l. IsListing K.cmp T.key l
         (λ k. option_or (item_of K.cmp T.key first.now k) (item_of K.cmp T.key second.now k))) }
 {
-    let mut map = BTreeMap::new(alloc);
-    keep_all(alloc, &mut map, first)?;
-    keep_all(alloc, &mut map, second)?;
-    in_order(alloc, &map)
+    if rise(first) && rise(second) {
+        merge(alloc, first, second)
+    } else {
+        union_by_map(alloc, first, second)
+    }
 }

@@ -4,7 +4,7 @@ use Rattle.std.specs.Map.{lookup}
 use Rattle.std.specs.Option.{option_or}
 use Rattle.st_ids.specs.Listing.{item_of}
 use Rattle.st_listings.proofs.MapListings.{listing_made}
-use Rattle.st_listings.proofs.unions.union.Goals as goal
+use Rattle.st_listings.proofs.unions.union_by_map.Goals as goal
 
 pub returns : goal.returns
 returns g c =
