@@ -1,4 +1,5 @@
 mod RowRoom
+mod FewCells
 mod RowsRoom
 mod SchemasLater
 pub mod Laid

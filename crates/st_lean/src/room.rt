@@ -7,14 +7,14 @@ ghost use Rattle.st_marks.specs.Listings.{cells_made, marks_of};
 ghost use Rattle.st_marks.specs.Row.{spread};
 ghost use Rattle.st_rows.specs.Changes.{may_list};
 ghost use Rattle.st_over.specs.Laid.{CanBeLaid};
-ghost use Rattle.st_lean.specs.inside.Room.{HaveRisingRegisters, HaveRisingRows, has_room_at};
+ghost use Rattle.st_lean.specs.inside.Room.{HaveRisingRegisters, HaveRisingRows, cells_listed, has_room_at};
 ghost use Rattle.st_moves.specs.Room.{HasRoomAt};
 ghost use Rattle.std.specs.List.{list_all};
 ghost use Rattle.st_ids.specs.declared.names.NodeId.{NodeId as Node};
 
 use st_clash::rise;
 use st_ids::{List, NodeId};
-use st_marks::{Change, Mark, RowMarks, Step, before};
+use st_marks::{Change, Mark, RowMarks, Step, after, before};
 use st_over::item_at;
 use std::alloc::Global;
 
@@ -103,8 +103,26 @@ fn have_rising_registers(change: &Change, step: &Step) -> bool
     rise(change.regs.as_slice()) && rise(step.regs.as_slice())
 }
 
-// Whether there is room in each row that either lists.
-fn has_room_in_rows(alloc: Global, change: &List<RowMarks>, step: &List<RowMarks>) -> bool
+// How many cells rows list, and 2^32 where there are more.
+fn listed(rows: &[RowMarks]) -> u64
+    ensures { result ≡ min (cells_listed rows.now) (2 ^ 32) }
+{
+    let mut count: u64 = 0;
+    for row in rows {
+        count = MOST.min(count.saturating_add(after(&row.marks)));
+    }
+    count
+}
+
+// Whether both list few cells in all, so that there is room in each row.
+fn are_few(change: &List<RowMarks>, step: &List<RowMarks>) -> bool
+    ensures { result ≡ true → (n : Node) → HasRoomAt change.now step.now n }
+{
+    listed(change.as_slice()) + listed(step.as_slice()) < MOST
+}
+
+// Whether there is room in each row, asked row by row.
+fn has_room_in_each(alloc: Global, change: &List<RowMarks>, step: &List<RowMarks>) -> bool
     requires change { IsRising node_cmp (λ (r : Row). r.node) change.now }
     requires step { IsRising node_cmp (λ (r : Row). r.node) step.now }
     ensures { (result ≡ true) ↔ ((n : Node) → HasRoomAt change.now step.now n) }
@@ -112,6 +130,15 @@ fn has_room_in_rows(alloc: Global, change: &List<RowMarks>, step: &List<RowMarks
     let by_change = all_have_room(alloc, change, change, step);
     let by_step = all_have_room(alloc, step, change, step);
     by_change && by_step
+}
+
+// Whether there is room in each row that either lists.
+fn has_room_in_rows(alloc: Global, change: &List<RowMarks>, step: &List<RowMarks>) -> bool
+    requires change { IsRising node_cmp (λ (r : Row). r.node) change.now }
+    requires step { IsRising node_cmp (λ (r : Row). r.node) step.now }
+    ensures { (result ≡ true) ↔ ((n : Node) → HasRoomAt change.now step.now n) }
+{
+    are_few(change, step) || has_room_in_each(alloc, change, step)
 }
 
 /// Whether the listings of a change and a step can be laid beside each other, as those can that stand over documents with short

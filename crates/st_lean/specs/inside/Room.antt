@@ -1,5 +1,5 @@
 -- Whether a change and a step can be laid beside each other.
-use Rattle.std.specs.Prelude.{◌^◌, ◌&&◌, nat_lt, Bool, List}
+use Rattle.std.specs.Prelude.{◌^◌, ◌&&◌, ◌+◌, ℕ, nat_lt, Bool, List, [], ◌∷◌, length}
 use Rattle.st_ids.specs.Listing.{IsRising}
 use Rattle.st_ids.specs.Order.{field_cmp, node_cmp}
 use Rattle.st_marks.specs.declared.changes.Change.{Change}
@@ -7,7 +7,7 @@ use Rattle.st_marks.specs.declared.marks.RegMark.{RegMark}
 use Rattle.st_marks.specs.declared.marks.RegStep.{RegStep}
 use Rattle.st_marks.specs.declared.marks.RowMarks.{RowMarks}
 use Rattle.st_marks.specs.declared.steps.Step.{Step}
-use Rattle.st_marks.specs.Row.{CellMark}
+use Rattle.st_marks.specs.Row.{CellMark, spread}
 use Rattle.st_rows.specs.Changes.{may_list}
 
 -- of two rows, what both make and what either finds are fewer than 2^32 cells
@@ -20,3 +20,8 @@ HaveRisingRows C S = IsRising node_cmp (λ (r : RowMarks). r.node) C.rows × IsR
 
 abbrev pub HaveRisingRegisters : Change → Step → Type 0
 HaveRisingRegisters C S = IsRising field_cmp (λ (r : RegMark). r.field) C.regs × IsRising field_cmp (λ (r : RegStep). r.field) S.regs
+
+-- how many cells rows list, those that they find and those that they make
+abbrev pub cells_listed : List RowMarks → ℕ
+cells_listed [] = 0
+cells_listed (r ∷ rows) = length (spread r.marks) + cells_listed rows
