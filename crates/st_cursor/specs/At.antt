@@ -1,5 +1,5 @@
 -- Where a cursor stands in the tree that a document shows.
-use Rattle.std.specs.Prelude.{◌≡◌, ◌⊎◌, ◌+◌, ◌++◌, ℕ, List, [], ◌∷◌, Option, Some, None, IsSome, MatchOption}
+use Rattle.std.specs.Prelude.{◌≡◌, ◌⊎◌, ◌+◌, ◌++◌, ℕ, List, [], ◌∷◌, Some, None, IsSome, MatchOption}
 use Rattle.st_edits.specs.Paths.{child}
 use Rattle.st_edits.specs.Resolve.{rule_at}
 use Rattle.st_forest.specs.Stands.{StandsFor}

@@ -1,4 +1,4 @@
-use Rattle.std.proofs.Common.{◌≡◌, ◌+◌, ◌++◌, ◌∷◌, [], ◌∙◌, List, length, map, take, refl, sym, ap, subst}
+use Rattle.std.proofs.Common.{◌≡◌, ◌+◌, ◌∙◌, List, length, map, take, refl, sym, subst}
 use Rattle.std.proofs.lemmas.List.{take_all}
 use Rattle.std.proofs.lemmas.Option.{slice_get_read}
 use Rattle.std.specs.List.{slice_get}
@@ -6,7 +6,6 @@ use Rattle.std.specs.Prelude.{Option, Some, IfSome}
 use Rattle.st_edits.specs.Paths.{child}
 use Rattle.st_forest.specs.Stands.{StandsFor}
 use Rattle.st_marks.specs.Document.{Document}
-use Rattle.st_ids.specs.declared.names.Place.{Place}
 use Rattle.st_cursor.specs.declared.hops.Hop.{Hop}
 use Rattle.st_cursor.proofs.Ways.{OnTheWay, hopped, places_on}
 use Rattle.st_cursor.proofs.walking.go_down.Goals as goal

@@ -1,8 +1,8 @@
-use Rattle.std.proofs.Common.{◌≡◌, ◌∙◌, ◌++◌, ◌∷◌, [], List, ap, subst, sym, refl}
+use Rattle.std.proofs.Common.{◌∙◌, List, ap, subst, sym}
 use Rattle.std.specs.Prelude.{Option, IfSome}
 use Rattle.st_ids.specs.Root.{root}
 use Rattle.st_marks.specs.Document.{Document}
-use Rattle.st_cursor.specs.At.{GoesOn, IsBehind, IsIn, Leads}
+use Rattle.st_cursor.specs.At.{IsBehind, IsIn, Leads}
 use Rattle.st_cursor.specs.declared.hops.Hop.{Hop}
 use Rattle.st_cursor.proofs.Ways.{gone_on, last_set, none_there}
 use Rattle.st_cursor.proofs.cursor.Cursor.next.Goals as goal

@@ -1,11 +1,11 @@
-use Rattle.std.proofs.Common.{◌≡◌, ◌∙◌, ◌-◌, ◌++◌, ◌∷◌, [], List, ap, inr, subst, sym, length, take}
+use Rattle.std.proofs.Common.{◌≡◌, ◌∙◌, ◌-◌, List, ap, inr, subst, sym, length, take}
 use Rattle.std.proofs.lemmas.Result.{IfOk-weaker}
 use Rattle.std.specs.Prelude.{slice_get, Option, Some, None, IfSome}
 use Rattle.st_edits.specs.Paths.{child}
 use Rattle.st_forest.specs.Stands.{StandsFor}
 use Rattle.st_ids.specs.Root.{root}
 use Rattle.st_marks.specs.Document.{Document}
-use Rattle.st_cursor.specs.At.{HasNoneBehind, IsBehind, IsIn, behind, end_of}
+use Rattle.st_cursor.specs.At.{IsBehind, IsIn, behind, end_of}
 use Rattle.st_cursor.specs.declared.hops.Hop.{Hop}
 use Rattle.st_cursor.proofs.Ways.{both_ok, found_behind, last_split}
 use Rattle.st_cursor.proofs.cursor.Cursor.next_hop.Goals as goal
