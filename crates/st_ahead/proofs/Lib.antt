@@ -1,0 +1,5 @@
+pub mod Along
+pub mod AheadLists
+pub mod CaughtUp
+pub mod Carried
+pub mod LagsEntered

@@ -1,0 +1,3 @@
+-- The words of loops and of private functions: no public contract reaches them.
+pub mod Carrying
+pub mod Lists
