@@ -3,3 +3,4 @@ pub mod AheadLists
 pub mod CaughtUp
 pub mod Carried
 pub mod LagsEntered
+pub mod Bridged

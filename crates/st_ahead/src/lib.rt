@@ -2,11 +2,13 @@
 //! all that the session sent.
 #![tactic(auto)]
 
+mod bridge;
 mod carrying;
 mod entering;
 mod lag;
 mod taking;
 
+pub use bridge::bridge_of;
 pub use entering::{lags_ack, lags_join, lags_leave};
 pub use lag::{Ahead, Lag};
 pub use taking::lags_take;
