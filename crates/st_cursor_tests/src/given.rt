@@ -14,8 +14,8 @@ use std::test::Fail;
 const SCHEMA: &str =
     r#"{"root":["list"],"types":[{"array":["text","card"],"name":"list"},{"name":"card","object":{"note":["opt",["text"]],"title":["req",["text"]]}}]}"#;
 
-// A text, which is node 1, and a card, which is node 2, whose title is node 3.
-const TREE: &str = r#"{"list":["bread",{"card":{"title":"milk"}}]}"#;
+/// A text, which is node 1, and a card, which is node 2, whose title is node 3.
+pub const TREE: &str = r#"{"list":["bread",{"card":{"title":"milk"}}]}"#;
 
 /// The node of a number.
 pub fn node(at: u32) -> NodeId {

@@ -1,4 +1,4 @@
-//! Cursors over a small document.
+//! Cursors over a small document, and its text.
 #![tactic(auto)]
 
 #[cfg(test)]
@@ -7,3 +7,5 @@ mod given;
 mod moves;
 #[cfg(test)]
 mod paths;
+#[cfg(test)]
+mod texts;

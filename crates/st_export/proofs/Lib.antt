@@ -1,0 +1,5 @@
+pub mod InTurn
+pub mod Made
+pub mod Meeting
+pub mod Shown
+pub mod Together

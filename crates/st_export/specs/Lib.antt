@@ -1,0 +1,2 @@
+pub mod NodeText
+pub mod inside
